@@ -41,7 +41,7 @@ class Hand:
     def view(self) -> View:
         return self.bench.view()
 
-    def does(self, kind: str, **fields: object) -> View:
+    def does(self, kind: str, **fields: Any) -> View:
         """A gesture that is done."""
         done = self.bench.gesture(self.view.version, {'kind': kind, **fields})
         assert done.refused is None and not done.stale, done.refused
@@ -68,7 +68,8 @@ class Hand:
     def drops(self, piece: str, partner: str) -> View:
         """Drags a piece to another one, or to a utility: the best offer there."""
         offer = next(offer for offer in self.offers(piece) if offer.partner == partner)
-        return self.does(**offer.gesture)
+        fields: dict[str, Any] = dict(offer.gesture)
+        return self.does(**fields)
 
 
 @contextmanager

@@ -3,7 +3,9 @@ from __future__ import annotations
 
 import errno
 import json
+import os
 from dataclasses import asdict
+from itertools import pairwise
 from pathlib import Path
 from tempfile import TemporaryDirectory
 
@@ -12,9 +14,9 @@ from conftest import EXAMPLES, pinchdesk
 from hypothesis import given
 from hypothesis import strategies as some
 from live_desk import Hand, bench_of, opened
+from segmented_cases import FEED, FEED_NETWORK
 
 from pinchdesk import Pinch
-from pinchdesk.formats import written_files
 from pinchdesk.live.asked import ON_PLAN, ON_TEXTS
 from pinchdesk.live.own_files import ChangedOutside, OpenedTwice, OwnFile, claimed
 from pinchdesk.live.view import Slider, View
@@ -133,7 +135,7 @@ def test_a_full_disk_changes_nothing(tmp_path: Path, monkeypatch: pytest.MonkeyP
     def full(_: int) -> None:
         raise OSError(errno.ENOSPC, 'No space left on device')
 
-    monkeypatch.setattr(written_files.os, 'fsync', full)
+    monkeypatch.setattr(os, 'fsync', full)
     assert 'No space left' in hand.may_not('take', exchanger='E1')
     assert 'No space left' in hand.view.files.saved
     assert (tmp_path / 'network.txt').read_bytes() == (EXAMPLES / 'tc3-network.txt').read_bytes()
@@ -142,10 +144,10 @@ def test_a_full_disk_changes_nothing(tmp_path: Path, monkeypatch: pytest.MonkeyP
     assert hand.does('take', exchanger='E1').files.saved == 'saved'
 
 
-def test_of_two_texts_that_are_written_both_or_none_are(tmp_path: Path) -> None:
+def test_of_two_texts_that_are_written_both_or_none_are(tmp_path: Path, monkeypatch: pytest.MonkeyPatch) -> None:
     hand = Hand(bench_of(tmp_path, 'tc3', 'tc3-network.txt'))
     hand.bench.network_file.path = str(tmp_path / 'gone' / 'network.txt')
-    hand.bench.network_file.read = lambda: hand.bench.network_file.content  # type: ignore[method-assign]
+    monkeypatch.setattr(hand.bench.network_file, 'read', lambda: hand.bench.network_file.content)
     hand.may_not('cell', row='stream S1', field='supply', text='155')
     assert (tmp_path / 'case.csv').read_bytes() == (EXAMPLES / 'tc3.csv').read_bytes()
 
@@ -226,7 +228,23 @@ def test_areas_stand_beside_a_network_and_beside_the_slider(tmp_path: Path) -> N
     assert view.texts == bench.view().texts
 
 
-TYPED = ['', '0', '-1', '1', '20', '150.5', '1/3', '1e30', 'nan', '12,5', 'x', None, 3, [], ['50', '50']]
+def test_segments_of_a_stream_are_in_one_row_of_the_grid(tmp_path: Path) -> None:
+    (tmp_path / 'case.csv').write_text(FEED, encoding='utf-8')
+    (tmp_path / 'network.txt').write_text(FEED_NETWORK, encoding='utf-8')
+    view = opened(tmp_path).view()
+    assert view.grid is not None
+    feed = next(row for row in view.grid.rows if row.name == 'FEED')
+    assert (feed.first, feed.last, feed.detail, feed.lanes) == ('120', '30', '3 segments', 1)
+    lines = sorted((line.begin, line.end) for line in view.grid.lines if line.stream == 'FEED')
+    assert (lines[0][0], lines[-1][1]) == (feed.begin, feed.end)
+    assert all(line[1] == behind[0] for line, behind in pairwise(lines))
+    assert [line.branch for line in view.grid.lines if line.stream == 'FEED' and line.arrow] == ['d']
+    columns = {bar.name: bar.cold_x for bar in view.grid.exchangers}
+    assert columns['E1'] < columns['E2'] < columns['E3'] < columns['E4']
+    assert view.score.placed == 4 and view.verdict.kind == 'accepted'
+
+
+TYPED: list[object] = ['', '0', '-1', '1', '20', '150.5', '1/3', '1e30', 'nan', '12,5', 'x', None, 3, [], ['50', '50']]
 
 
 def named_in(view: View) -> dict[str, list[object]]:
@@ -238,7 +256,8 @@ def named_in(view: View) -> dict[str, list[object]]:
     seats = ['begin', 'end', 'lane', 'level']
     return {'piece': [*pieces], 'partner': [*pieces, *utilities], 'utility': [*utilities],
             'exchanger': [bar.name for bar in grid.exchangers], 'joint': [joint.id for joint in grid.joints],
-            'row': [row.row for row in (*view.streams, *view.utilities, *view.forbids)], 'hot_seat': [*seats],
+            'row': [*(row.row for row in view.streams), *(row.row for row in view.utilities),
+                    *(row.row for row in view.forbids)], 'hot_seat': [*seats],
             'cold_seat': [*seats], 'field': ['name', 'supply', 'flow', 'most', 'hot'], 'side': ['hot', 'cold'],
             'what': ['stream', 'utility', 'forbid'], 'name': ['A', 'E1', 'HOT'], 'at': [0, 1, -1]}
 

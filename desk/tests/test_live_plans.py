@@ -160,6 +160,7 @@ def test_a_path_that_mends_says_from_which_heat_on() -> None:
     broken = shift(plan, loop.identity, plan.duties['E4'])
     assert 'E4' not in broken.pairs and not placed_is_right(broken, content)
     mending = [ranged for ranged in ways_of(broken) if ranged.mends]
-    assert [(ranged.least, ranged.most) for ranged in mending] == [(4000, 140_000), (20_000, 20_000)]
+    ends = [(Fraction(4000), Fraction(140_000)), (Fraction(20_000), Fraction(20_000))]
+    assert [(ranged.least, ranged.most) for ranged in mending] == ends
     assert not placed_is_right(shift(broken, mending[0].identity, Fraction(3999)), content)
     assert placed_is_right(shift(broken, mending[0].identity, Fraction(4000)), content)

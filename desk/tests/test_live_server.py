@@ -23,17 +23,17 @@ def server(tmp_path_factory: pytest.TempPathFactory) -> Iterator[Served]:
 
 
 def test_the_page_gets_the_view_and_a_gesture_gives_the_next_one(tmp_path: Path) -> None:
-    with served(bench_of(tmp_path, 'tc3')) as server:
-        view = asked(server, 'GET', at(server, 'view')).json
+    with served(bench_of(tmp_path, 'tc3')) as running:
+        view = asked(running, 'GET', at(running, 'view')).json
         assert (view['verdict']['kind'], view['score']['target_hot'], view['score']['units']) == (
             'nothing-placed', '107.5', '0 + 7 = 7; the rule: 7')
         gesture = {'version': view['version'], 'gesture': {'kind': 'finish'}}
-        heard = asked(server, 'POST', at(server, 'gesture'), gesture)
+        heard = asked(running, 'POST', at(running, 'gesture'), gesture)
         assert heard.status == 200 and heard.json['view']['verdict']['kind'] == 'accepted'
-        stale = asked(server, 'POST', at(server, 'gesture'), gesture)
+        stale = asked(running, 'POST', at(running, 'gesture'), gesture)
         assert stale.status == 409 and stale.json['view']['version'] == heard.json['view']['version']
-        refused = asked(server, 'POST', at(server, 'gesture'), {'version': stale.json['view']['version'],
-                                                                'gesture': {'kind': 'finish'}})
+        again = {'version': stale.json['view']['version'], 'gesture': {'kind': 'finish'}}
+        refused = asked(running, 'POST', at(running, 'gesture'), again)
         assert refused.status == 200 and refused.json['refused']['text'] == 'Nothing is open.'
 
 
@@ -82,9 +82,9 @@ def test_a_post_of_another_page_is_not_answered(server: Served, wrong: dict[str,
 
 
 def test_another_page_can_only_go_to_the_page(server: Served) -> None:
-    going = {'sec_fetch_mode': 'navigate', 'sec_fetch_dest': 'document'}
-    for path, fetch in (('view', {}), ('view', going), ('', {**going, 'sec_fetch_dest': 'iframe'}),
-                        ('', {'sec_fetch_mode': 'no-cors', 'sec_fetch_dest': 'script'})):
+    going: dict[str, str | None] = {'sec_fetch_mode': 'navigate', 'sec_fetch_dest': 'document'}
+    script: dict[str, str | None] = {'sec_fetch_mode': 'no-cors', 'sec_fetch_dest': 'script'}
+    for path, fetch in (('view', {}), ('view', going), ('', {**going, 'sec_fetch_dest': 'iframe'}), ('', script)):
         assert is_nothing(asked(server, 'GET', at(server, path), sec_fetch_site='cross-site', **fetch)), fetch
 
 
@@ -114,20 +114,20 @@ def test_each_answer_keeps_other_pages_out(server: Served) -> None:
 def test_a_window_hears_of_each_change(tmp_path: Path) -> None:
     async def heard() -> list[str]:
         said: list[str] = []
-        address = f'ws://{server.guard.host}/{server.guard.token}/changes'
-        async with websockets.connect(address, origin=server.guard.origin) as window:
+        address = f'ws://{running.guard.host}/{running.guard.token}/changes'
+        async with websockets.connect(address, origin=running.guard.origin) as window:
             said.append(await asyncio.wait_for(window.recv(), 10))
             content = {'version': int(said[0]), 'gesture': {'kind': 'finish'}}
-            await asyncio.to_thread(asked, server, 'POST', at(server, 'gesture'), content)
+            await asyncio.to_thread(asked, running, 'POST', at(running, 'gesture'), content)
             said.append(await asyncio.wait_for(window.recv(), 10))
             (tmp_path / 'network.txt').write_text('', encoding='utf-8')
             said.append(await asyncio.wait_for(window.recv(), 10))
         return said
 
-    with served(bench_of(tmp_path, 'tc3')) as server:
+    with served(bench_of(tmp_path, 'tc3')) as running:
         versions = [json.loads(text) for text in asyncio.run(heard())]
         assert versions == sorted(set(versions)) and len(versions) == 3
-        view = asked(server, 'GET', at(server, 'view')).json
+        view = asked(running, 'GET', at(running, 'view')).json
         assert [step['text'] for step in view['steps']] == ['opened', 'the rest by utilities', 'changed outside']
 
 
@@ -154,20 +154,20 @@ def test_a_window_needs_the_token(server: Served) -> None:
 
 def test_it_can_be_closed_with_a_window_open(tmp_path: Path) -> None:
     async def closed() -> None:
-        address = f'ws://{server.guard.host}/{server.guard.token}/changes'
-        async with websockets.connect(address, origin=server.guard.origin) as window:
+        address = f'ws://{running.guard.host}/{running.guard.token}/changes'
+        async with websockets.connect(address, origin=running.guard.origin) as window:
             await asyncio.wait_for(window.recv(), 10)
-            assert (await asyncio.to_thread(asked, server, 'POST', at(server, 'close'), {})).status == 200
+            assert (await asyncio.to_thread(asked, running, 'POST', at(running, 'close'), {})).status == 200
             with pytest.raises(websockets.exceptions.ConnectionClosed):
                 await asyncio.wait_for(window.recv(), 10)
 
-    with served(bench_of(tmp_path, 'tc3')) as server:
+    with served(bench_of(tmp_path, 'tc3')) as running:
         asyncio.run(closed())
 
 
 @pytest.mark.long
 def test_the_page_for_the_reviewer_has_no_script(tmp_path: Path) -> None:
-    with served(bench_of(tmp_path, 'tc3', 'tc3-network.txt')) as server:
-        heard = asked(server, 'GET', at(server, 'report'))
+    with served(bench_of(tmp_path, 'tc3', 'tc3-network.txt')) as running:
+        heard = asked(running, 'GET', at(running, 'report'))
         assert heard.status == 200 and b'<h1>' in heard.body and b'<script' not in heard.body
         assert heard.headers['content-security-policy'].startswith("default-src 'none'; style-src 'unsafe-inline'")

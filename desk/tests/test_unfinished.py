@@ -11,7 +11,7 @@ from conftest import EXAMPLES, NETWORKS, few_of, pinchdesk
 from pinchdesk import Pinch, completed, follow, read_case, read_network
 from pinchdesk.analysis.rest import remaining
 from pinchdesk.analysis.unfinished import open_exchangers, placed, unfinished_told
-from pinchdesk.formats.network import Exchanger, Network, Pass, print_network
+from pinchdesk.formats.network import End, Exchanger, Network, Pass, print_network
 
 TC3 = EXAMPLES / 'tc3.csv'
 # One match of tc3 and a heater; all else is open.
@@ -65,9 +65,9 @@ def test_a_table_of_many_says_it(begun: str, tmp_path: Path) -> None:
 
 def test_the_rest_is_what_is_open(begun: str) -> None:
     left = remaining(TC3.read_bytes(), BEGUN)
-    assert left.good and left.exact and left.hot_used == 17_500 and left.excess == (0, 0)
-    assert [(branch.stream.name, branch.heat) for branch in left.left] == [
-        ('S1', 60_000), ('S2', 240_000), ('S3', 125_000), ('S4', 225_000)]
+    assert left.good and left.exact and left.hot_used == 17_500 and left.excess == (Fraction(0), Fraction(0))
+    assert {branch.stream.name: int(branch.heat) for branch in left.left} == {
+        'S1': 60_000, 'S2': 240_000, 'S3': 125_000, 'S4': 225_000}
     done = pinchdesk('rest', str(TC3), begun)
     assert done.status == 0 and 'exchangers so far                2' in done.out
 
@@ -93,7 +93,7 @@ def with_open_ends(name: str) -> tuple[Network, Network]:
     network = read_network(text)
     case = completed(read_case((EXAMPLES / f'{name}.csv').read_bytes()))
     utilities = {utility.name for utility in case.utilities}
-    ended = {statement.branch for statement in network.statements if type(statement).__name__ == 'End'}
+    ended = {statement.branch for statement in network.statements if isinstance(statement, End)}
     last = {statement.exchanger: statement for statement in network.statements
             if isinstance(statement, Pass) and statement.to in ended}
     gone = {exchanger.name for exchanger in network.exchangers
@@ -101,7 +101,7 @@ def with_open_ends(name: str) -> tuple[Network, Network]:
     behind = {last[exchanger].to for exchanger in gone}
     begun = Network(tuple(statement for statement in network.statements
                           if getattr(statement, 'exchanger', getattr(statement, 'name', '')) not in gone
-                          and not (type(statement).__name__ == 'End' and statement.branch in behind)))
+                          and not (isinstance(statement, End) and statement.branch in behind)))
     names = {exchanger: f'open-{at}' for at, exchanger in enumerate(sorted(gone), 1)}
     named = Network(tuple(
         Exchanger(names.get(statement.name, statement.name), statement.hot, statement.cold, statement.duty)

@@ -208,6 +208,6 @@ class Bench:
                 raise NotDone(f'The case cannot be read: {known.fault}')
             text = with_difference(known.snapshot.case, known.case, difference)
             whole = self.knowing.whole(completed_live(text), text)
-            return slid(whole, area_targets(self.knowing.pinch, whole.case), self.network_at(known, whole, text))
+            return slid(whole, area_targets(self.knowing.pinch, whole), self.network_at(known, whole, text))
         except DeskError as fault:
             return GestureDone(self.view(), Refusal(told(fault)))

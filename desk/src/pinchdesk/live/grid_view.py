@@ -3,7 +3,9 @@ their places."""
 from __future__ import annotations
 
 from collections.abc import Mapping, Sequence
-from dataclasses import dataclass
+from dataclasses import dataclass, field
+from fractions import Fraction
+from itertools import pairwise
 
 from ..analysis.follow import Followed, PinchPoint, PinchSide, follow
 from ..analysis.pinch_places import temperatures_at
@@ -13,6 +15,7 @@ from ..figures.grid.lanes import count_of, drawn_branches, lanes_of, node_at, sh
 from ..formats.case import Side, Stream, Utility
 from ..formats.network import End, Network
 from ..formats.shown import Shown, decimal
+from ..formats.whole_streams import parts_of, whole_name, whole_streams
 from .gestures import joint_names
 from .network_lines import TextLayout, LineWriter
 from .pieces import HandPlan, reaches, side_at, utilities_for
@@ -21,7 +24,8 @@ from .view import BranchLine, ExchangerBar, GridPicture, GridRow, JointLine, Ope
 
 @dataclass(frozen=True)
 class Lines:
-    """Where everything stands: columns, the lanes of each stream, and the first line of each row, from the top."""
+    """Where everything stands: columns, the lanes of each stream, from where to where it goes, and the first line of
+    each row, from the top. The segments of a stream are one behind the other in one row."""
 
     plan: HandPlan
     followed: Followed
@@ -30,10 +34,13 @@ class Lines:
     columns: Columns
     lanes: Mapping[str, Mapping[str, int]]
     rows: Sequence[Stream | Utility]
+    reach: Mapping[str, tuple[float, float]]
     tops: Mapping[str, int]
     band: int
     count: int
     faults: Mapping[str, str]
+    # Where each exchanger works, once it was asked for.
+    places: dict[str, tuple[str, str]] = field(default_factory=dict)
 
     @property
     def shown(self) -> Shown:
@@ -51,24 +58,58 @@ def laid_out(plan: HandPlan, layout: TextLayout, pinches: tuple[PinchPoint, ...]
     followed = follow(plan.case, Network(tuple(LineWriter(plan, layout).written())))
     hot, cold = (sources_of(plan, side) for side in Side)
     rows = [*hot, *cold]
-    tracks = Tracks({row.name: at if at < len(hot) else at + 2 for at, row in enumerate(rows)}, len(hot),
-                    frozenset(plan.open))
+    tracks = {part.name: at if at < len(hot) else at + 2 for at, row in enumerate(rows) for part in parts_in(row)}
     course = course_of(followed, pinches)
-    columns = columns_of(followed, course, tracks, len(pinches))
+    ends = chained(plan, followed, course)
+    columns = columns_of(followed, course, Tracks(tracks, len(hot), frozenset(plan.open)), len(pinches))
     lanes = {stream.name: lanes_of(followed, course, columns, stream) for stream in plan.case.streams}
     tops: dict[str, int] = {}
     line = 0
     for at, row in enumerate(rows):
         line += at == len(hot)
-        tops[row.name] = line
-        line += count_of(lanes[row.name]) if isinstance(row, Stream) else 1
+        tops |= {part.name: line for part in (row, *parts_in(row))}
+        line += max(count_of(lanes.get(part.name, {})) for part in parts_in(row))
     band = tops[cold[0].name] - 1 if cold else line
-    return Lines(plan, followed, pinches, course, columns, lanes, rows, tops, band, line, faults)
+    reach = {name: end for row in rows if isinstance(row, Stream)
+             for name, end in reaches_of(row, course, columns, pinches, ends).items()}
+    return Lines(plan, followed, pinches, course, columns, lanes, rows, reach, tops, band, line, faults)
+
+
+def parts_in(row: Stream | Utility) -> tuple[Stream | Utility, ...]:
+    """The sources of the program in a row."""
+    return parts_of(row) if isinstance(row, Stream) else (row,)
+
+
+def chained(plan: HandPlan, followed: Followed, course: Course) -> dict[str, tuple[Node, Node]]:
+    """Puts each segment of a stream behind the one before it. By the name of a segment that another one follows, where
+    it ends and where that begins."""
+    last = {followed.branches[statement.branch].stream.name: course.made.get(statement.branch)
+            for statement in followed.network.statements if isinstance(statement, End)}
+    found: dict[str, tuple[Node, Node]] = {}
+    for whole in whole_streams(plan.case):
+        for one, other in pairwise(parts_of(whole)):
+            before, behind = last.get(one.name), course.used.get(other.name)
+            if before is not None and behind is not None:
+                behind.behind.append(before)
+                found[one.name] = before, behind
+    return found
+
+
+def reaches_of(row: Stream, course: Course, columns: Columns, pinches: tuple[PinchPoint, ...],
+               ends: Mapping[str, tuple[Node, Node]]) -> dict[str, tuple[float, float]]:
+    """From which to which column a stream and each of its segments goes, in its direction."""
+    parts = parts_of(row)
+    spans = {part.name: stream_columns(course, columns, pinches, part) for part in parts}
+    left, right = min(span[0] for span in spans.values()), max(span[1] for span in spans.values())
+    first, last = (left, right) if row.side is Side.HOT else (right, left)
+    kinks = [sum(columns.of[node.key] for node in ends[part.name]) / 2 for part in parts if part.name in ends]
+    marks = [first, *kinks, last] if len(kinks) == len(parts) - 1 else [first, *[last] * len(parts)]
+    return {row.name: (first, last)} | {part.name: span for part, span in zip(parts, pairwise(marks))}
 
 
 def sources_of(plan: HandPlan, side: Side) -> list[Stream | Utility]:
     """The rows of a side from the top: utilities stand outside."""
-    streams: list[Stream | Utility] = [stream for stream in plan.case.streams if stream.side is side]
+    streams: list[Stream | Utility] = [stream for stream in whole_streams(plan.case) if stream.side is side]
     utilities: list[Stream | Utility] = [utility for utility in plan.case.utilities if utility.side is side]
     return [*utilities, *streams] if side is Side.HOT else [*streams, *utilities]
 
@@ -92,21 +133,25 @@ def row_of(lines: Lines, source: Stream | Utility) -> GridRow:
         kind = 'hot' if source.side is Side.HOT else 'cold'
         text = ', '.join(part for part in (f'{kind} utility {source.name}', level, heat or 'not used') if part)
         return GridRow(source.name, 'utility', side, top, 1, -0.75, lines.columns.count - 0.25, '', heat, level, text)
-    begin, end = stream_columns(lines.course, lines.columns, lines.pinches, source)
+    begin, end = sorted(lines.reach[source.name])
     supply, target = shown.temperature(source.supply), shown.temperature(source.target)
     hot = source.side is Side.HOT
-    detail = f'{shown.heat(source.load)} {shown.heat_unit}' if source.latent else f'CP {shown.flow(source.cp)}'
+    parts = parts_of(source)
+    detail = f'{len(parts)} segments' if len(parts) > 1 else \
+        f'{shown.heat(source.load)} {shown.heat_unit}' if source.latent else f'CP {shown.flow(source.cp)}'
     unit = shown.temperature_unit
     text = f'{side} stream {source.name}, {supply} to {target} {unit}, {detail}, ' \
            f'{shown.heat(source.heat)} {shown.heat_unit}'
-    return GridRow(source.name, 'stream', side, top, count_of(dict(lines.lanes[source.name])), begin, end,
-                   supply if hot else target, target if hot else supply, detail, text)
+    count = max(count_of(lines.lanes[part.name]) for part in parts)
+    return GridRow(source.name, 'stream', side, top, count, begin, end, supply if hot else target,
+                   target if hot else supply, detail, text)
 
 
 def lines_of(lines: Lines, stream: Stream) -> list[BranchLine]:
     """The branches of a stream from node to node; its own name stands for where it begins."""
-    begin, end = stream_columns(lines.course, lines.columns, lines.pinches, stream)
-    first, last = (begin, end) if stream.side is Side.HOT else (end, begin)
+    first, last = lines.reach[stream.name]
+    row = whole_name(lines.plan.case, stream.name)
+    is_last = lines.reach[row][1] == last
     ended = {statement.branch for statement in lines.followed.network.statements if isinstance(statement, End)}
     made: list[BranchLine] = []
     for name in drawn_branches(lines.course, lines.lanes[stream.name]):
@@ -115,7 +160,7 @@ def lines_of(lines: Lines, stream: Stream) -> list[BranchLine]:
         until = last if stop is None else lines.column(stop)
         label, kind = label_of(lines, name, start, name in ended)
         left, right = min(x, until), max(x, until)
-        made.append(BranchLine(stream.name, name, lines.line(stream.name, name), left, right, name in ended, label,
+        made.append(BranchLine(row, name, lines.line(stream.name, name), left, right, name in ended and is_last, label,
                                x + (0.5 if stream.side is Side.HOT else -0.5), kind))
     return made
 
@@ -148,7 +193,8 @@ def joints_of(lines: Lines) -> tuple[JointLine, ...]:
         joint = joint_at(lines, node, names[stream], partings)
         shares = tuple(decimal(lane.share * 100, 2) for lane in partings[joint].lanes) if joint else ()
         if heights:
-            made.append(JointLine(joint, stream, lines.column(node), min(heights), max(heights), shares))
+            row = whole_name(lines.plan.case, stream)
+            made.append(JointLine(joint, row, lines.column(node), min(heights), max(heights), shares))
     return tuple(made)
 
 
@@ -181,10 +227,24 @@ def words_for(where: str) -> str:
 
 def place_of(lines: Lines, name: str) -> tuple[str, str]:
     """The side of the pinches, and the most that is carried down across one."""
+    if name not in lines.places:
+        lines.places[name] = placed_at(lines, name)
+    return lines.places[name]
+
+
+def placed_at(lines: Lines, name: str) -> tuple[str, str]:
     passage = lines.followed.passage(name)
-    sides = {passage.side_of(pinch) for pinch in lines.pinches} - {None}
-    heats = [heat for heat in (passage.crossing(pinch) for pinch in lines.pinches) if heat]
-    carried = lines.shown.heat(max(heats, key=abs)) if heats else ''
+    sides: set[PinchSide] = set()
+    heats: list[Fraction] = []
+    for pinch in lines.pinches:
+        given, taken = passage.above(passage.hot, pinch), passage.above(passage.cold, pinch)
+        if given is None or taken is None:
+            continue
+        heats.append(given - taken)
+        sides.add(PinchSide.ABOVE if given == taken == passage.exchanger.duty else
+                  PinchSide.BELOW if given == taken == 0 else PinchSide.ACROSS)
+    most = max(heats, key=abs, default=Fraction(0))
+    carried = lines.shown.heat(most) if most else ''
     if PinchSide.ACROSS in sides:
         return PinchSide.ACROSS.value, carried
     where = PinchSide.ABOVE if PinchSide.ABOVE in sides else PinchSide.BELOW
@@ -218,7 +278,8 @@ def pill_of(lines: Lines, name: str) -> OpenPill:
     parts = (f'open piece of {stream.name}', f'{first} to {last} {unit}', f'{duty} {shown.heat_unit}', words_for(where),
              fault)
     text = ', '.join(part for part in parts if part)
-    return OpenPill(name, stream.name, stream.side.value, duty, first, last, x, y, where, fault, text)
+    row = whole_name(plan.case, stream.name)
+    return OpenPill(name, row, stream.side.value, duty, first, last, x, y, where, fault, text)
 
 
 def pinch_lines(lines: Lines) -> tuple[PinchLine, ...]:

@@ -5,7 +5,8 @@ from collections.abc import Mapping
 from dataclasses import dataclass, replace
 from fractions import Fraction
 
-from ..analysis.follow import Branch, PinchPoint, pinches_of
+from ..analysis.follow import Branch, PinchPoint, follow, pinches_of
+from ..analysis.joined import placed_count
 from ..analysis.open_branches import Left, Rounding, Scale, is_exact, rest_case, scale_of
 from ..errors import Refused
 from ..formats.case import ANY_HEAT, Case, Side, Utility
@@ -128,6 +129,13 @@ def with_stand_ins(plan: HandPlan) -> tuple[Case, Network]:
     pairs = {name: pair_with(plan.streams_of(name)[0], names[other_of(plan.streams_of(name)[0].side)])
              for name in plan.open}
     return replace(plan.case, utilities=tuple(kept), forbids=forbids), with_pairs(plan, pairs)
+
+
+def count_placed(plan: HandPlan) -> int:
+    """How many exchangers of the plant stand: one that goes on across a kink is one."""
+    if not plan.case.basis.segments:
+        return len(plan.placed)
+    return placed_count(follow(plan.case, Network(tuple(LineWriter(plan, TextLayout()).written()))))
 
 
 def other_of(side: Side) -> Side:

@@ -140,7 +140,7 @@ class Knowing:
         known = Standing(whole, plan, stand.result(), reach.result(), rule.result(), left.result())
         if plan.open or known.stand.accepted is None:
             return known
-        return replace(known, areas=areas_of_network(self.pinch, whole.case, snapshot.network_bytes))
+        return replace(known, areas=areas_of_network(whole.case, snapshot.network_bytes, known.stand.accepted))
 
     def rule(self, text: str, case: Case) -> int:
         """The rule's number of exchangers between the pinches of a case; 0 where it has no heat flow."""

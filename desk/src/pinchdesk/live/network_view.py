@@ -10,7 +10,7 @@ from ..formats.shown import Shown
 from ..program.verdicts import Accepted, Place, PlaceKind, Rejected, TooFine, Verdict
 from .areas import Areas
 from .grid_view import Lines, place_of
-from .judgement import Reachable, Stand, Whole
+from .judgement import Reachable, Stand, Whole, count_placed
 from .pieces import HandPlan
 from .view import ExchangerRow, Judgement, Mark, ScoreView
 
@@ -50,7 +50,7 @@ def judgement_of(standing: Standing) -> Judgement:
         return Judgement('unfinished', 'Unfinished', told.strip())
     assert isinstance(stand.verdict, Accepted)
     excess = stand.verdict.excess
-    told = f'{len(plan.placed)} exchangers, {shown.heat(stand.verdict.hot)} {unit} of hot utility: '
+    told = f'{count_placed(plan)} exchangers, {shown.heat(stand.verdict.hot)} {unit} of hot utility: '
     told += f'{shown.heat(excess)} {unit} above the target.' if excess else 'the target.'
     return Judgement('accepted', 'Accepted', told)
 
@@ -106,7 +106,7 @@ def score_of(standing: Standing) -> ScoreView:
     plan, whole, reach = standing.plan, standing.whole, standing.reach
     shown, accepted = Shown(plan.case.basis), standing.stand.accepted
     cold_more = whole.targets.cold - whole.targets.hot
-    placed, left, rule = len(plan.placed), standing.left, standing.rule
+    placed, left, rule = count_placed(plan), standing.left, standing.rule
     units = f'{placed} + {left} = {placed + left}; the rule: {rule}' if left else f'{placed}; the rule: {rule}'
     right = isinstance(standing.stand.placed, Accepted)
     judged = accepted or standing.stand.placed
@@ -132,7 +132,8 @@ def money(shown: Shown, cost: Fraction | int) -> str:
 
 def notes_of(standing: Standing, known: bool) -> tuple[str, ...]:
     areas = standing.areas
-    notes = [f'area {areas.area}, {areas.cost} with the utilities'] if areas.area else []
+    cost = f', {areas.cost} with the utilities' if areas.cost else ''
+    notes = [f'area {areas.area}{cost}'] if areas.area else []
     notes += [areas.missing] if areas.missing else []
     if standing.reach is not None and not standing.reach.exact:
         notes.append('what can be reached is rounded up: what is left has finer numbers than a case can hold')
