@@ -84,7 +84,9 @@ def test_a_post_of_another_page_is_not_answered(server: Served, wrong: dict[str,
 def test_another_page_can_only_go_to_the_page(server: Served) -> None:
     going: dict[str, str | None] = {'sec_fetch_mode': 'navigate', 'sec_fetch_dest': 'document'}
     script: dict[str, str | None] = {'sec_fetch_mode': 'no-cors', 'sec_fetch_dest': 'script'}
-    for path, fetch in (('view', {}), ('view', going), ('', {**going, 'sec_fetch_dest': 'iframe'}), ('', script)):
+    framed: dict[str, str | None] = {**going, 'sec_fetch_dest': 'iframe'}
+    asks: list[tuple[str, dict[str, str | None]]] = [('view', {}), ('view', going), ('', framed), ('', script)]
+    for path, fetch in asks:
         assert is_nothing(asked(server, 'GET', at(server, path), sec_fetch_site='cross-site', **fetch)), fetch
 
 

@@ -77,7 +77,9 @@ def laid_out(plan: HandPlan, layout: TextLayout, pinches: tuple[PinchPoint, ...]
 
 def parts_in(row: Stream | Utility) -> tuple[Stream | Utility, ...]:
     """The sources of the program in a row."""
-    return parts_of(row) if isinstance(row, Stream) else (row,)
+    if isinstance(row, Utility):
+        return (row,)
+    return parts_of(row)
 
 
 def chained(plan: HandPlan, followed: Followed, course: Course) -> dict[str, tuple[Node, Node]]:
