@@ -244,6 +244,21 @@ def test_segments_of_a_stream_are_in_one_row_of_the_grid(tmp_path: Path) -> None
     assert view.score.placed == 4 and view.verdict.kind == 'accepted'
 
 
+def test_an_exchanger_goes_on_across_kinks_and_is_taken_away_whole(tmp_path: Path) -> None:
+    (tmp_path / 'case.csv').write_text(FEED, encoding='utf-8')
+    hand = Hand(opened(tmp_path))
+    pieces = {(pill.stream, pill.first): pill.id for pill in hand.view.grid.pieces} if hand.view.grid else {}
+    best = hand.offers(pieces['H', '200'])[0]
+    assert (best.stream, best.words, best.free) == ('FEED', '200 kW, finishes FEED', True)
+    view = hand.does('place', **{name: value for name, value in best.gesture.items() if name != 'kind'})
+    assert [(row.cold, row.duty) for row in view.exchangers] == [('FEED-1', '100'), ('FEED-2', '60'), ('FEED-3', '40')]
+    assert (view.score.placed, view.score.units, view.steps[-1].text) == (
+        1, '1 + 2 = 3; the rule: 3', 'E1: H–FEED, 200 kW')
+    assert hand.does('finish').verdict.kind == 'accepted'
+    hand.does('undo')
+    assert not hand.does('take', exchanger='E2').exchangers
+
+
 TYPED: list[object] = ['', '0', '-1', '1', '20', '150.5', '1/3', '1e30', 'nan', '12,5', 'x', None, 3, [], ['50', '50']]
 
 

@@ -9,6 +9,7 @@ from fractions import Fraction
 from ..formats.amounts import exact
 from ..formats.case import Case
 from ..formats.shown import Shown
+from ..formats.whole_streams import whole_name
 from . import gestures
 from .adapting import adapted
 from .case_lines import added, removed, with_cell, with_difference
@@ -95,16 +96,22 @@ def place(known: Known, fields: Fields) -> tuple[HandPlan, str]:
         except ValueError as fault:
             raise NotDone('There is no such place on a piece.') from fault
     typed = fields.maybe('duty')
-    made = gestures.place(plan, piece, partner, seats, None if typed is None else heat_of(plan, typed))
+    pinches = known.whole.pinches if known.whole else ()
+    made = gestures.place(plan, piece, partner, seats, None if typed is None else heat_of(plan, typed), pinches)
     return made, placed_told(plan, made)
 
 
 def placed_told(before: HandPlan, after: HandPlan) -> str:
     """What is placed by a gesture, in words."""
     shown = Shown(after.case.basis)
-    new = [name for name in after.placed if name not in before.pairs]
-    return ', '.join(f'{name}: {"–".join(after.pairs[name])}, {shown.heat(after.duties[name])} {shown.heat_unit}'
-                     for name in new) or 'placed'
+    parts: dict[str, list[str]] = {}
+    for name in after.placed:
+        if name not in before.pairs:
+            pair = '–'.join(whole_name(after.case, source) for source in after.pairs[name])
+            parts.setdefault(pair, []).append(name)
+    heats = {pair: sum((after.duties[name] for name in names), Fraction(0)) for pair, names in parts.items()}
+    return ', '.join(f'{names[0]}: {pair}, {shown.heat(heats[pair])} {shown.heat_unit}'
+                     for pair, names in parts.items()) or 'placed'
 
 
 def take(known: Known, fields: Fields) -> tuple[HandPlan, str]:

@@ -167,7 +167,8 @@ class Bench:
         if known.plan is None:
             return ()
         try:
-            return offers_of(self.knowing.pinch, known.cut_plan(), piece, known.reach)
+            pinches = known.whole.pinches if known.whole else ()
+            return offers_of(self.knowing.pinch, known.cut_plan(), piece, known.reach, pinches)
         except NotDone as fault:
             return GestureDone(self.view(), Refusal(str(fault)))
 

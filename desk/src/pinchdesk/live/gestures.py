@@ -13,8 +13,9 @@ from ..errors import DeskError
 from ..formats.case import ANY_HEAT, Side, Utility
 from ..formats.shown import Shown
 from ..search.reduce.structure import Course, Lane, Parting, Through, throughs
-from .pieces import (HandPlan, changed, cut, fresh_open, merged, named, pair_with, reaches, replaced, side_at,
-                     utilities_for, without_idle_partings)
+from .kinks import joined_with, placed_along
+from .pieces import (HandPlan, changed, cut, fresh_open, merged, named, neighbours, pair_with, reaches, replaced,
+                     side_at, utilities_for, without_idle_partings)
 from .seats import Seat, seated, seatings, settled
 
 NAME = re.compile('[A-Za-z0-9][A-Za-z0-9_-]{0,15}')
@@ -55,8 +56,9 @@ def other_side(plan: HandPlan, piece: str, partner: str) -> tuple[str, str]:
 
 
 def place(plan: HandPlan, piece: str, partner: str, seats: tuple[Seat, Seat] | None = None,
-          duty: Fraction | None = None) -> HandPlan:
-    """An exchanger between two pieces of a plan that is cut, or one of them and a utility."""
+          duty: Fraction | None = None, pinches: Sequence[PinchPoint] = ()) -> HandPlan:
+    """An exchanger between two pieces of a plan that is cut, or one of them and a utility. Without a duty it is as
+    large as it can be, and goes on across kinks."""
     hot, cold = other_side(plan, piece, partner)
     found = [chosen for chosen in seatings(plan, hot, cold, duty)
              if seats is None or (chosen.hot_seat, chosen.cold_seat) == seats]
@@ -68,12 +70,14 @@ def place(plan: HandPlan, piece: str, partner: str, seats: tuple[Seat, Seat] | N
         shown = Shown(plan.case.basis)
         raise NotDone(f'No more than {shown.heat(chosen.duty)} {shown.heat_unit} can be placed there.',
                       ('piece', piece))
-    return seated(plan, chosen)
+    return seated(plan, chosen) if duty is not None else placed_along(plan, chosen, pinches)
 
 
 def take_away(plan: HandPlan, exchanger: str) -> HandPlan:
-    """What an exchanger served is open again."""
-    return settled(opened(plan, known(plan, exchanger)))
+    """What an exchanger served is open again, on both sides of each kink that it crosses."""
+    for part in joined_with(plan, known(plan, exchanger)):
+        plan = settled(opened(plan, part))
+    return plan
 
 
 def opened(plan: HandPlan, exchanger: str) -> HandPlan:
@@ -149,21 +153,6 @@ def room_of(plan: HandPlan, exchanger: str) -> Fraction:
         rooms.append(plan.duties[exchanger] + sum((plan.duties[name] for name in (before, behind) if name),
                                                   Fraction(0)))
     return min(rooms)
-
-
-def neighbours(plan: HandPlan, course: Course, exchanger: str) -> tuple[str | None, str | None]:
-    """The open pieces just before and just behind an exchanger, in its own lane."""
-    for at, step in enumerate(course):
-        if isinstance(step, Through) and step.exchanger == exchanger:
-            around = [course[place] if 0 <= place < len(course) else None for place in (at - 1, at + 1)]
-            names = [beside.exchanger if isinstance(beside, Through) and plan.is_open(beside.exchanger) else None
-                     for beside in around]
-            return names[0], names[1]
-        if isinstance(step, Parting):
-            for lane in step.lanes:
-                if exchanger in throughs(lane.course):
-                    return neighbours(plan, lane.course, exchanger)
-    return None, None
 
 
 def resized(plan: HandPlan, exchanger: str, duty: Fraction, anchors: Anchors) -> list[HandPlan]:

@@ -7,13 +7,16 @@ from concurrent.futures import ThreadPoolExecutor
 from dataclasses import dataclass
 from fractions import Fraction
 
+from ..analysis.follow import PinchPoint
 from ..formats.case import Side
 from ..formats.shown import Shown
+from ..formats.whole_streams import whole_name
 from ..program.run import Pinch
 from .gestures import open_piece
 from .judgement import Reachable, reachable
+from .kinks import placed_along
 from .pieces import HandPlan, utilities_for
-from .seats import Seat, Seated, seated, seatings
+from .seats import Seat, Seated, seatings
 from .view import Offer
 
 ASKED_AT_ONCE = 4
@@ -27,6 +30,7 @@ class PricedOffer:
 
     chosen: Seated
     partner: str
+    made: HandPlan
     after: Reachable | None
 
 
@@ -46,13 +50,16 @@ def ways_to_place(plan: HandPlan, piece: str) -> Iterator[tuple[str, Seated]]:
         yield from ((partner, chosen) for chosen in found[:MOST_WAYS])
 
 
-def offers_of(pinch: Pinch, plan: HandPlan, piece: str, before: Reachable | None) -> tuple[Offer, ...]:
+def offers_of(pinch: Pinch, plan: HandPlan, piece: str, before: Reachable | None,
+              pinches: Sequence[PinchPoint] = ()) -> tuple[Offer, ...]:
     """All offers for a piece of a plan that is cut, the best first: what costs least, then what has the larger duty,
     then what wants no split."""
     ways = list(ways_to_place(plan, piece))
+    made = [placed_along(plan, chosen, pinches) for _, chosen in ways]
     with ThreadPoolExecutor(ASKED_AT_ONCE) as pool:
-        after = list(pool.map(lambda way: reachable(pinch, seated(plan, way[1])), ways))
-    priced = [PricedOffer(chosen, partner, found) for (partner, chosen), found in zip(ways, after)]
+        after = list(pool.map(lambda placed: reachable(pinch, placed), made))
+    priced = [PricedOffer(chosen, partner, placed, found)
+              for (partner, chosen), placed, found in zip(ways, made, after)]
     priced.sort(key=lambda offer: rank(plan, offer, before))
     return tuple(told(plan, piece, offer, before) for offer in priced)
 
@@ -67,14 +74,16 @@ def cost_of(offer: PricedOffer, before: Reachable | None) -> Fraction | None:
 def rank(plan: HandPlan, offer: PricedOffer, before: Reachable | None) -> tuple[object, ...]:
     cost = cost_of(offer, before)
     lanes = (offer.chosen.hot_seat, offer.chosen.cold_seat).count(Seat.LANE)
-    return (offer.partner in plan.utilities, cost is None, cost or Fraction(0), -offer.chosen.duty, lanes)
+    heat = sum((offer.made.duties[name] for name in offer.made.placed if name not in plan.pairs), Fraction(0))
+    return (offer.partner in plan.utilities, cost is None, cost or Fraction(0), -heat, lanes)
 
 
 def told(plan: HandPlan, piece: str, offer: PricedOffer, before: Reachable | None) -> Offer:
     """An offer in words."""
     shown, chosen = Shown(plan.case.basis), offer.chosen
-    duty = f'{shown.heat(chosen.duty)} {shown.heat_unit}'
-    ended = [plan.piece(name).stream.name for name in (chosen.hot, chosen.cold) if ends_piece(plan, name, chosen)]
+    heat = sum((offer.made.duties[name] for name in offer.made.placed if name not in plan.pairs), Fraction(0))
+    duty = f'{shown.heat(heat)} {shown.heat_unit}'
+    ended = [ended_name(plan, offer.made, name) for name in (chosen.hot, chosen.cold) if ends_piece(plan, name, chosen)]
     cost = cost_of(offer, before)
     exact = before is not None and before.exact and offer.after is not None and offer.after.exact
     price = 'cost not known' if cost is None else 'costs nothing' if not cost else \
@@ -88,8 +97,17 @@ def told(plan: HandPlan, piece: str, offer: PricedOffer, before: Reachable | Non
                'cold_seat': chosen.cold_seat.value}
     words = duty + (f', finishes {" and ".join(ended)}' if ended else '')
     return Offer(partner, 'utility' if is_utility else 'piece',
-                 partner if is_utility else plan.piece(partner).stream.name, shown.heat(chosen.duty), words,
+                 partner if is_utility else whole_name(plan.case, plan.piece(partner).stream.name), shown.heat(heat),
+                 words,
                  price + (f' ({seats})' if seats else ''), cost == 0, bool(ended), gesture)
+
+
+def ended_name(plan: HandPlan, made: HandPlan, piece: str) -> str:
+    """What a piece finishes: the stream, or of one in segments this one where others are still open."""
+    segment = plan.piece(piece).stream.name
+    whole = whole_name(plan.case, segment)
+    is_open = any(whole_name(plan.case, made.piece(name).stream.name) == whole for name in made.open)
+    return segment if is_open else whole
 
 
 def ends_piece(plan: HandPlan, name: str, chosen: Seated) -> bool:

@@ -340,3 +340,18 @@ def named(plan: HandPlan, name_of: Callable[[str], str]) -> HandPlan:
     courses = {stream: course_named(course) for stream, course in plan.structure.courses.items()}
     pairs = {name_of(name): pair for name, pair in plan.pairs.items()}
     return HandPlan(plan.case, Structure(pairs, courses), {name_of(name): duty for name, duty in plan.duties.items()})
+
+
+def neighbours(plan: HandPlan, course: Course, exchanger: str) -> tuple[str | None, str | None]:
+    """The open pieces just before and just behind an exchanger, in its own lane."""
+    for at, step in enumerate(course):
+        if isinstance(step, Through) and step.exchanger == exchanger:
+            around = [course[place] if 0 <= place < len(course) else None for place in (at - 1, at + 1)]
+            names = [beside.exchanger if isinstance(beside, Through) and plan.is_open(beside.exchanger) else None
+                     for beside in around]
+            return names[0], names[1]
+        if isinstance(step, Parting):
+            for lane in step.lanes:
+                if exchanger in throughs(lane.course):
+                    return neighbours(plan, lane.course, exchanger)
+    return None, None

@@ -126,6 +126,18 @@ def seatings(plan: HandPlan, hot: str, cold: str, most: Fraction | None = None) 
             yield Seated(hot, cold, where[0], where[1], duty)
 
 
+def seat_of(plan: HandPlan, hot: str, cold: str, seats: tuple[Seat, Seat]) -> Seated | None:
+    """The largest exchanger in these seats; None where there is none."""
+    if not may_meet(plan, hot, cold):
+        return None
+    approach = sum(plan.sources[source_of(plan, name)].contribution for name in (hot, cold))
+    ends = ends_at(plan, hot, seats[0]), ends_at(plan, cold, seats[1])
+    duty = largest(ends, approach, min(most_of(plan, hot), most_of(plan, cold)))
+    if duty is None:
+        return None
+    return Seated(hot, cold, whole_seat(plan, hot, seats[0], duty), whole_seat(plan, cold, seats[1], duty), duty)
+
+
 def whole_seat(plan: HandPlan, name: str, seat: Seat, duty: Fraction) -> Seat:
     """The seat; one that takes a whole piece stands at its beginning, whichever it was."""
     return Seat.BEGIN if seat is not Seat.LEVEL and plan.piece(name).heat == duty else seat
