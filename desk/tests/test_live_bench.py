@@ -4,6 +4,8 @@ from __future__ import annotations
 import errno
 import json
 import os
+import threading
+import time
 from dataclasses import asdict
 from itertools import pairwise
 from pathlib import Path
@@ -17,6 +19,7 @@ from live_desk import Hand, bench_of, opened
 from segmented_cases import FEED, FEED_NETWORK
 
 from pinchdesk import Pinch
+from pinchdesk.live import own_files
 from pinchdesk.live.asked import ON_PLAN, ON_TEXTS
 from pinchdesk.live.own_files import ChangedOutside, OpenedTwice, OwnFile, claimed
 from pinchdesk.live.view import Slider, View
@@ -150,6 +153,24 @@ def test_of_two_texts_that_are_written_both_or_none_are(tmp_path: Path, monkeypa
     monkeypatch.setattr(hand.bench.network_file, 'read', lambda: hand.bench.network_file.content)
     hand.may_not('cell', row='stream S1', field='supply', text='155')
     assert (tmp_path / 'case.csv').read_bytes() == (EXAMPLES / 'tc3.csv').read_bytes()
+
+
+def test_what_the_desk_writes_itself_is_no_change_outside(tmp_path: Path, monkeypatch: pytest.MonkeyPatch) -> None:
+    bench = bench_of(tmp_path, 'tc3', 'tc3-network.txt')
+    written, looks = own_files.write_whole, []
+
+    def slow(path: str, content: bytes, lasting: bool) -> None:
+        written(path, content, lasting=lasting)
+        looks.append(threading.Thread(target=bench.look))
+        looks[-1].start()
+        time.sleep(0.1)
+
+    monkeypatch.setattr(own_files, 'write_whole', slow)
+    done = bench.gesture(bench.view().version, {'kind': 'take', 'exchanger': 'E1'})
+    for look in looks:
+        look.join()
+    assert looks and done.refused is None
+    assert [step.text for step in bench.view().steps] == ['opened', 'E1 taken away']
 
 
 def test_a_file_is_open_in_one_desk_alone(tmp_path: Path) -> None:

@@ -140,14 +140,19 @@ class Bench:
         self.saved = 'saved'
 
     def look(self) -> bool:
-        """Takes what somebody else wrote as a step of its own; whether there was something."""
-        try:
-            changed = self.case_file.is_changed() or self.network_file.is_changed()
-        except DeskError as fault:
-            self.saved = f'cannot be read: {fault}'
-            return False
-        if not changed:
-            return False
+        """Takes what somebody else wrote as a step of its own; whether there was something. Not while this desk writes."""
+        with self.lock:
+            try:
+                changed = self.case_file.is_changed() or self.network_file.is_changed()
+            except DeskError as fault:
+                self.saved = f'cannot be read: {fault}'
+                return False
+            if changed:
+                self.take_over()
+            return changed
+
+    def take_over(self) -> None:
+        """A step with what both files hold now."""
         now = self.steps[self.at].snapshot
         case, network = self.case_file.taken(), self.network_file.taken()
         text = as_text(case) if case is not None else now.case
@@ -156,7 +161,6 @@ class Bench:
             self.steps[self.at + 1:] = [Made(made, 'changed outside')]
             self.at += 1
         self.version += 1
-        return True
 
     def offers(self, version: object, piece: str) -> tuple[Offer, ...] | GestureDone:
         """The offers for a piece of what the page saw."""
