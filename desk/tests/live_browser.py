@@ -164,6 +164,30 @@ class LivePage:
         """What has the focus: its key."""
         return str(self.driver.execute_script('return document.activeElement.getAttribute("data-key")'))
 
+    def said(self) -> str:
+        """What a screen reader says of what has the focus."""
+        return str(self.driver.execute_script('const at = document.activeElement;'
+                                              'return at.getAttribute("aria-label") ?? at.textContent'))
+
+    def walk(self, selector: str) -> None:
+        """Goes by arrows to a place of the diagram, first up or down and then along the row."""
+        for _ in range(60):
+            target = self.one(selector)
+            if self.driver.execute_script('return document.activeElement === arguments[0]', target):
+                return
+            (x, y), (u, v) = self.middle(self.one('#grid .here')), self.middle(target)
+            self.press((Keys.ARROW_DOWN if v > y else Keys.ARROW_UP) if abs(v - y) > 4 else
+                       Keys.ARROW_RIGHT if u > x else Keys.ARROW_LEFT)
+        raise AssertionError(f'no way to {selector}')
+
+    def tab_to(self, text: str, key: str = Keys.TAB) -> None:
+        """Goes by Tab until what has the focus is called so."""
+        for _ in range(80):
+            if self.said().startswith(text):
+                return
+            self.press(key)
+        raise AssertionError(f'Tab does not come to {text}')
+
     def says(self, *words: str) -> None:
         """Waits until the verdict has these words."""
         self.until(lambda: all(word in self.text('#verdict') for word in words))
@@ -175,5 +199,6 @@ class LivePage:
         return dict(self.driver.execute_script(TIMES))
 
     def errors(self) -> list[str]:
-        """What went wrong in scripts or was kept from loading."""
-        return [str(entry['message']) for entry in self.driver.get_log('browser') if entry['level'] == 'SEVERE']
+        """What went wrong in scripts or was kept from loading; a question about a state that is no more is no fault."""
+        return [str(entry['message']) for entry in self.driver.get_log('browser')
+                if entry['level'] == 'SEVERE' and '409 (Conflict)' not in str(entry['message'])]

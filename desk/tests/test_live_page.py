@@ -126,7 +126,7 @@ def test_by_keys_alone(page: LivePage, desk: OpenDesk) -> None:
         page.press(Keys.TAB)
         if page.focused().startswith('piece'):
             break
-    page.until(lambda: 'S1' in focused_name(page))
+    page.until(lambda: 'S1' in page.said())
     page.press(Keys.ENTER)
     page.until(lambda: page.focused() == 'offer 0')
     page.press(Keys.ARROW_DOWN)
@@ -147,8 +147,63 @@ def test_by_keys_alone(page: LivePage, desk: OpenDesk) -> None:
     page.says('Accepted')
 
 
-def focused_name(page: LivePage) -> str:
-    return str(page.driver.execute_script('return document.activeElement.getAttribute("aria-label")'))
+@pytest.mark.long
+def test_tc3_by_keys_alone(page: LivePage, desk: OpenDesk) -> None:
+    """The published network, broken and mended, without a pointer."""
+    page.driver.execute_script('document.activeElement.blur()')
+    page.tab_to('open piece')
+    for count, (stream, duty) in enumerate((('S1', '120'), ('S2', '240'), ('S2', '105'), ('S1', '60')), 1):
+        page.walk(f'[data-piece][aria-label*="of {stream},"][aria-label*=", {duty} "]')
+        page.press(Keys.ENTER)
+        page.until(lambda: page.focused() == 'offer 0')
+        page.press(Keys.ENTER)
+        page.until(lambda: len(page.exchangers()) == count and page.focused().startswith('exchanger'))  # noqa: B023
+    page.press('U')
+    page.says('Accepted', '107.5 kW')
+    page.until(lambda: page.all('#ways .ways') and 'stale' not in str(page.one('#ways').get_attribute('class')))
+    page.press('g')
+    page.tab_to('break it: E4 goes (20 kW)')
+    page.press(Keys.ENTER)
+    page.says('Rejected')
+    page.until(lambda: page.all('#ways .mending') and page.said().startswith('heat to be moved'))
+    page.press(Keys.ENTER)
+    page.says('Accepted', '111.5 kW')
+    page.until(lambda: 'stale' not in str(page.one('#ways').get_attribute('class')))
+    page.press(Keys.ESCAPE)
+    page.until(lambda: page.focused().startswith(('exchanger', 'joint')))
+    assert audited(desk) == 'accepted' and len(page.exchangers()) == 6
+
+
+@pytest.mark.long
+def test_the_published_network_of_four_streams_is_made_in_five_gestures(driver: Chrome, tmp_path: Path) -> None:
+    shutil.copy(EXAMPLES / 'four-stream.csv', tmp_path)
+    desk = open_desk(tmp_path / 'four-stream.csv', tmp_path / 'network.txt')
+    try:
+        page = LivePage(driver).go(desk.address)
+        for source, target in ((('H2', '240'), ('C3', '240')), (('H4', '90'), ('C1', '110')),
+                               (('H2', '90'), ('C1', '120')), (('H4', '90'), ('C1', '30'))):
+            page.place(source, target)
+        page.button('Serve the rest', '#score').click()
+        page.says('Accepted', '20 kW')
+        assert exchanged(desk.network) == exchanged(EXAMPLES / 'four-stream-network.txt')
+    finally:
+        driver.get('about:blank')
+        desk.kill()
+
+
+def exchanged(network: Path) -> list[list[str]]:
+    """What exchanges how much in a network, whatever the exchangers are called."""
+    return sorted(line.split()[2:] for line in network.read_text(encoding='utf-8').splitlines()
+                  if line.startswith('exchanger '))
+
+
+@pytest.mark.long
+def test_another_place_is_one_click_away(page: LivePage, desk: OpenDesk) -> None:
+    page.place(('S2', '240'), ('S4', '135'))
+    first = desk.network.read_text(encoding='utf-8')
+    page.until(lambda: page.all('[data-key="instead 0"]'))[0].click()
+    page.until(lambda: desk.network.read_text(encoding='utf-8') != first and len(page.exchangers()) == 1)
+    page.until(lambda: page.all('[data-key="instead 0"]'))
 
 
 @pytest.mark.long

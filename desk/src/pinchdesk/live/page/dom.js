@@ -5,6 +5,7 @@
 /** @typedef {Node | string | null | undefined | false} Child */
 
 const SVG = 'http://www.w3.org/2000/svg';
+const CONTROL = 'button:not(:disabled), input, select, textarea';
 
 /**
  * @template {Element} Kind
@@ -70,20 +71,22 @@ function isField(element) {
 
 /**
  * Puts new children into a part. What had the focus has it again where it still is (by its `data-key`), with what was
- * being typed and where.
+ * being typed and where; else the first control of the part has it, or the diagram, so that no key goes nowhere.
  * @param {Element} parent
  * @param {...Child} children
  */
 export function fill(parent, ...children) {
   const focused = document.activeElement;
-  const key = focused && parent.contains(focused) ? focused.getAttribute('data-key') : null;
+  const inside = focused !== null && parent.contains(focused);
+  const key = inside ? focused.getAttribute('data-key') : null;
   const typed = isField(focused) && focused.value !== focused.defaultValue ? focused.value : null;
   const range = isField(focused) && focused.type !== 'range' ? [focused.selectionStart, focused.selectionEnd] : null;
   parent.replaceChildren(...children.flatMap(child => child ? [child] : []));
+  if (!inside) return;
   const again = key === null ? null : keyed(parent, key);
-  if (!again) return;
-  again.focus({ preventScroll: true });
-  if (!isField(again)) return;
+  const next = again ?? parent.querySelector(CONTROL) ?? document.querySelector('#grid [tabindex="0"]');
+  if (next instanceof HTMLElement || next instanceof SVGElement) next.focus({ preventScroll: true });
+  if (!again || !isField(again)) return;
   if (typed !== null) again.value = typed;
   if (range && range[0] !== null) again.setSelectionRange(range[0], range[1]);
 }

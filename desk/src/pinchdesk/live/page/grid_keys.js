@@ -7,7 +7,7 @@ import { chosenAt } from './grid_marks.js';
 /** @type {Record<string, [number, number]>} */
 const WAYS = { ArrowLeft: [-1, 0], ArrowRight: [1, 0], ArrowUp: [0, -1], ArrowDown: [0, 1] };
 
-/** @typedef {{element: SVGElement, x: number, y: number}} Stop an exchanger has one at each of its ends */
+/** @typedef {{element: SVGElement, shape: Element, x: number, y: number}} Stop an exchanger has one at each end */
 
 export class GridKeys {
   /** @param {GridPart} part */
@@ -37,11 +37,20 @@ export class GridKeys {
    * @param {boolean} focused
    */
   goTo(stop, focused) {
-    if (this.present) this.present.element.setAttribute('tabindex', '-1');
+    if (this.present) {
+      this.present.element.setAttribute('tabindex', '-1');
+      this.present.shape.classList.remove('here');
+    }
     this.present = stop;
     if (!stop) return;
     stop.element.setAttribute('tabindex', '0');
+    stop.shape.classList.add('here');
     if (focused) stop.element.focus({ preventScroll: false });
+  }
+
+  /** The focus goes to the present place. */
+  enter() {
+    this.goTo(this.present, true);
   }
 
   /** @param {FocusEvent} event */
@@ -55,7 +64,7 @@ export class GridKeys {
   pressed(event) {
     if (event.ctrlKey || event.metaKey || event.altKey) return;
     const way = WAYS[event.key];
-    const done = way ? this.step(way[0], way[1]) : this.act(event.key);
+    const done = way ? this.step(way[0], way[1]) : this.leap(event.key) || this.act(event.key);
     if (done) event.preventDefault();
   }
 
@@ -74,6 +83,16 @@ export class GridKeys {
     const found = nearest(right ? inRow : beyond.filter(stop => stop.y === row), present);
     if (found) this.goTo(found, true);
     return true;
+  }
+
+  /**
+   * To the first or the last place; the open ones come first.
+   * @param {string} key
+   */
+  leap(key) {
+    const stop = key === 'Home' ? this.stops[0] : key === 'End' ? this.stops[this.stops.length - 1] : undefined;
+    if (stop) this.goTo(stop, true);
+    return stop !== undefined;
   }
 
   /**
@@ -129,7 +148,7 @@ function stopsOf(picture) {
     if (!(element instanceof SVGElement)) continue;
     const shapes = element.querySelectorAll('rect');
     for (const shape of shapes.length ? shapes : element.querySelectorAll('.upright')) {
-      stops.push({ element, ...middle(shape) });
+      stops.push({ element, shape, ...middle(shape) });
     }
   }
   return stops.sort((one, other) =>

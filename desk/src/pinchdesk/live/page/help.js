@@ -6,6 +6,7 @@ import { fill, make } from './dom.js';
 const KEYS = [
   ['Tab', 'goes from part to part; the diagram is one of them'],
   ['← → ↑ ↓', 'in the diagram: from place to place'],
+  ['Home, End', 'in the diagram: to the first open piece, to the last place'],
   ['Enter', 'on an open piece: its partners, the best first; on an exchanger: its duty; on a parting: its shares'],
   ['m', 'on an exchanger: as large as it can be'],
   ['Delete', 'on an exchanger: takes it away; on a parting: joins the branches'],

@@ -65,8 +65,8 @@ async function begin() {
   for (const renderer of [
     grid.render, topPart(actions, help), toastPart(), lostPart(), new StreamsPart(part('streams'), actions).render,
     new CurvesPart(part('curves'), actions).render, chosen.render,
-    new WaysPart(part('ways'), actions).render, scorePart(part('score'), actions), stepsPart(part('steps'), actions),
-    tablePart(part('table'), actions), textsPart(part('texts'), actions), measured,
+    new WaysPart(part('ways'), actions, () => grid.keys.enter()).render, scorePart(part('score'), actions),
+    stepsPart(part('steps'), actions), tablePart(part('table'), actions), textsPart(part('texts'), actions), measured,
   ]) store.add(renderer);
   restPart(part('rest'), actions);
   document.addEventListener('keydown', event => pressed(event, actions, help));

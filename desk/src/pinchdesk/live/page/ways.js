@@ -11,12 +11,16 @@ export class WaysPart {
   /**
    * @param {HTMLElement} panel
    * @param {Actions} actions
+   * @param {() => unknown} back gives the focus back to the diagram
    */
-  constructor(panel, actions) {
+  constructor(panel, actions, back) {
     this.panel = panel;
     this.actions = actions;
     this.scrolled = 0;
     panel.addEventListener('scroll', () => { this.scrolled = panel.scrollTop; });
+    panel.addEventListener('keydown', event => {
+      if (event.key === 'Escape') back();
+    });
   }
 
   /** @type {import('./state.js').Renderer} */
