@@ -1,6 +1,7 @@
 """What the tests of the live page share: a desk that is open, a browser, what is done in it by pointer and by keys."""
 from __future__ import annotations
 
+import io
 import os
 import re
 import shutil
@@ -23,7 +24,7 @@ from selenium.webdriver.remote.webelement import WebElement
 from conftest import DESK
 
 CHROMIUM, DRIVER = (shutil.which(name) for name in ('chromium', 'chromedriver'))
-WAIT = 20.0
+WAIT, COLOURS = 20.0, 48
 WORDS = ('--headless=new', '--no-sandbox', '--disable-gpu', '--disable-dev-shm-usage')
 Found = TypeVar('Found')
 # The marks that the page sets: the last one of each name.
@@ -191,6 +192,17 @@ class LivePage:
     def says(self, *words: str) -> None:
         """Waits until the verdict has these words."""
         self.until(lambda: all(word in self.text('#verdict') for word in words))
+
+    def picture(self, name: str) -> None:
+        """Keeps what is seen as a picture of the documents, where `LIVE_PICTURES` names their folder."""
+        folder = os.environ.get('LIVE_PICTURES')
+        if not folder:
+            return
+        from PIL import Image
+        small = io.BytesIO()
+        seen = Image.open(io.BytesIO(self.driver.get_screenshot_as_png()))
+        seen.convert('RGB').quantize(COLOURS).save(small, 'png', optimize=True)
+        Path(folder, f'{name}.png').write_bytes(small.getvalue())
 
     def painted(self) -> dict[str, float]:
         """How long the last gesture took from the pointer's release or the key, in ms: until it was asked, answered and

@@ -46,9 +46,8 @@ def page(driver: Chrome, desk: OpenDesk) -> Iterator[LivePage]:
     driver.get('about:blank')
 
 
-def place_all(page: LivePage) -> None:
-    """The published network of tc3: four drags and a button."""
-    page.place(('S1', '120'), ('S3', '137.5'))
+def place_rest(page: LivePage) -> None:
+    """The published network of tc3 after its first exchanger: three drags more, and a button."""
     page.place(('S2', '240'), ('S4', '135'))
     page.place(('S2', '105'), ('S3', '125'))
     page.place(('S1', '60'), ('S3', '20'))
@@ -80,7 +79,13 @@ def test_the_cost_stands_beside_the_pointer_before_the_drop(page: LivePage) -> N
 
 @pytest.mark.long
 def test_tc3_is_made_broken_and_mended(page: LivePage, desk: OpenDesk) -> None:
-    place_all(page)
+    """It makes the pictures of the documents too: LIVE_PICTURES=docs/pictures."""
+    page.drag(page.piece('S1', '120'), page.piece('S3', '137.5'), drop=False)
+    page.until(lambda: 'costs nothing' in page.text('#hint'))
+    page.picture('live-drag')
+    ActionChains(page.driver).release().perform()
+    page.until(lambda: len(page.exchangers()) == 1)
+    place_rest(page)
     page.says('107.5 kW')
     assert len(page.exchangers()) == 7
     assert audited(desk) == 'accepted'
@@ -90,6 +95,7 @@ def test_tc3_is_made_broken_and_mended(page: LivePage, desk: OpenDesk) -> None:
     assert page.all('.exchanger.fault')
     mending = page.until(lambda: page.all('#ways .mending'))[0]
     assert '4 to 140' in mending.text
+    page.picture('live-broken')
     field = mending.find_element(By.CSS_SELECTOR, 'input')
     assert field.get_attribute('value') == '4'
     mending.find_element(By.XPATH, './/button[.="move"]').click()

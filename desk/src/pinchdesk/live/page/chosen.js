@@ -204,11 +204,11 @@ function exchangerContent(name, state, actions) {
     title(`${name}: ${shape.hot} → ${shape.cold}`),
     shape.fault && make('p', { class: 'fault' }, `⚠ ${shape.fault}`),
     dutyForm(name, shape.duty, view, actions),
-    facts(name, view),
-    otherForms(name, shape.kind, view, actions),
     others.length > 0 && make('h3', {}, 'Instead'),
     others.length > 0 && make('ol', { class: 'offers', 'aria-label': 'other places' }, ...others.map((offer, at) =>
       make('li', {}, offerButton(offer, `instead ${at}`, actions, () => actions.placeInstead(offer))))),
+    facts(name, view),
+    otherForms(name, shape.kind, view, actions),
   ];
 }
 
@@ -247,7 +247,7 @@ function facts(name, view) {
   const lines = [
     ['hot side', `${row.hot_in} → ${row.hot_out} ${temperature}`],
     ['cold side', `${row.cold_in} → ${row.cold_out} ${temperature}`],
-    ['least difference', `${row.difference} ${difference}, wanted ${row.wanted}`],
+    ['least difference', `${row.difference} ${difference}, needed ${row.wanted}`],
     ['pinch', row.where || 'there is none'],
     ['loses', row.loss], ['area', row.area],
   ];

@@ -11,7 +11,7 @@ import { viewChanged } from './state.js';
 const COLUMNS = [
   ['name', 'exchanger', false], ['hot', 'hot', false], ['cold', 'cold', false], ['duty', 'duty', true],
   ['hot_in', 'hot in', true], ['hot_out', 'hot out', true], ['cold_in', 'cold in', true],
-  ['cold_out', 'cold out', true], ['difference', 'least difference', true], ['wanted', 'wanted', true],
+  ['cold_out', 'cold out', true], ['difference', 'least difference', true], ['wanted', 'needed', true],
   ['where', 'pinch', false], ['loss', 'loses', true], ['area', 'area', true], ['fault', 'fault', false],
 ];
 
