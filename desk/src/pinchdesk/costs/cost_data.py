@@ -148,8 +148,8 @@ class CostData:
         if not self.overalls:
             return 1 / (self.resistance(hot) + self.resistance(cold))
         names = self.names_of(hot), self.names_of(cold)
-        pair = next((self.overalls[one_pair] for one_pair in map(frozenset, product(*names))
-                     if one_pair in self.overalls), None)
+        pairs = (frozenset(both) for both in product(*names))
+        pair = next((self.overalls[both] for both in pairs if both in self.overalls), None)
         own = {self.overalls[frozenset((name,))] for name in (*names[0], *names[1])
                if frozenset((name,)) in self.overalls}
         if pair is None and len(own) > 1:

@@ -140,7 +140,7 @@ class Bench:
         self.saved = 'saved'
 
     def look(self) -> bool:
-        """Takes what somebody else wrote as a step of its own; whether there was something. Not while this desk writes."""
+        """Takes what somebody else wrote as a step; whether there was something. Not while this desk writes."""
         with self.lock:
             try:
                 changed = self.case_file.is_changed() or self.network_file.is_changed()
