@@ -47,7 +47,7 @@ def test_offers_ways_and_the_slider_are_answered(server: Served) -> None:
     slider = asked(server, 'POST', at(server, 'slider'), {'version': version, 'difference': '25'}).json
     assert (slider['target_hot'], slider['target_cold']) == ('135', '67.5')
     refused = asked(server, 'POST', at(server, 'slider'), {'version': version, 'difference': 'wide'}).json
-    assert 'is no number' in refused['refused']['text']
+    assert 'is not a number' in refused['refused']['text']
 
 
 def is_nothing(heard: Heard) -> bool:

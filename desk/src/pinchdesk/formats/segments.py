@@ -43,7 +43,7 @@ def with_segment(streams: tuple[SegmentedStream, ...], row: Sequence[str]) -> tu
         raise ValueError('a segment has two fields, its stream and its name')
     for text, what in ((name, 'a stream'), (segment, 'a segment')):
         if not NAME.fullmatch(text):
-            raise ValueError(f'`{text[:40]}` is no name of {what}')
+            raise ValueError(f'`{text[:40]}` is not a name of {what}')
     if sum(len(stream.segments) for stream in streams) >= MOST_SEGMENTS:
         raise ValueError(f'a case has at most {MOST_SEGMENTS} streams, and each segment is one')
     if name in STANDARD:
@@ -66,7 +66,7 @@ def segment_fault(segmented: SegmentedStream, streams: Mapping[str, Stream], sou
     for name in segmented.segments:
         segment = streams.get(name)
         if segment is None:
-            return SegmentFault(name, f'{name} is no stream of the case')
+            return SegmentFault(name, f'{name} is not a stream of the case')
         if segmented.name in sources:
             return SegmentFault(name, f'the case has a source {segmented.name} too: give the whole another name')
         if before and before.side is not segment.side:

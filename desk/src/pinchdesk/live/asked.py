@@ -61,7 +61,7 @@ def number(text: str) -> Fraction:
     try:
         return exact(text.replace(',', '.').replace('−', '-'))
     except ValueError as fault:
-        raise NotDone(f'{text[:40] or "Nothing"} is no number.') from fault
+        raise NotDone(f'{text[:40] or "Nothing"} is not a number.') from fault
 
 
 def heat_of(plan: HandPlan, text: str, near: Fraction | None = None) -> Fraction:

@@ -94,7 +94,7 @@ def number_of(text: str, make: Callable[[Fraction], Fraction], what: str) -> str
     try:
         value = make(exact(text.strip().replace(',', '.').replace('−', '-')))
     except ValueError as fault:
-        raise NotDone(f'{text[:40] or "Nothing"} is no number: the {what} has to be one.') from fault
+        raise NotDone(f'{text[:40] or "Nothing"} is not a number: the {what} has to be one.') from fault
     if value.denominator != 1:
         raise NotDone(f'{text[:40]} is finer than a case can hold for the {what}.')
     return str(value)
