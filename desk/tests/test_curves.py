@@ -77,8 +77,10 @@ def test_curves_show_targets_and_pinches_on_both_scales(name: str, pinch: Pinch)
 @pytest.mark.parametrize('drawing', [composite_figure, balanced_figure, grand_figure])
 def test_each_diagram_alone_can_be_read(name: str, drawing: Drawing, pinch: Pinch) -> None:
     content = example(f'{name}.csv')
-    case = completed(read_case(content))
-    assert_readable(drawing(case, pinch.targets(content), pinch.curves(content), pinch.flow(content)))
+    case, flow = completed(read_case(content)), pinch.flow(content)
+    figure = drawing(case, pinch.targets(content), pinch.curves(content), flow)
+    assert_readable(figure)
+    assert ('(no heat flow: utilities are left out)' in svg_texts(figure)) == isinstance(flow, Cut)
 
 
 @pytest.mark.parametrize(('content', 'hot', 'cold'), [

@@ -11,6 +11,8 @@ from .panels import BALANCED, COMPOSITE, GRAND, Panel
 from .style import blank, styled
 from .utilities_used import Drawn, drawn_of
 
+NO_FLOW = 'no heat flow: utilities are left out'
+
 
 def curves_figure(case: Case, targets: Targets, curves: Curves, flow: HeatFlow | Cut) -> Figure:
     """Composite, balanced and grand composite curves of a completed case and what `pinch` answered of it, with a legend
@@ -60,6 +62,8 @@ def single(panel: Panel, drawn: Drawn) -> Figure:
         figure = blank(5.9, 5.2)
         axes = figure.subplots()
         panel.put(axes, drawn)
+        if not drawn.feasible:
+            axes.set_title(f'{axes.get_title()}\n({NO_FLOW})')
         legend_below(axes)
         lines = len(axes.get_legend().get_texts())
         figure.set_size_inches(5.9, 4.7 + 0.2 * -(-lines // axes.get_legend()._ncols))
@@ -77,7 +81,7 @@ def headline(drawn: Drawn) -> str:
     hot, cold = shown.kilowatts(drawn.targets.hot), shown.kilowatts(drawn.targets.cold)
     text = f'Targets: hot utility {hot} kW, cold utility {cold} kW, {told}'
     if not drawn.feasible:
-        return f'{text} (no heat flow: utilities are left out)'
+        return f'{text} ({NO_FLOW})'
     if drawn.beyond:
         used = [shown.kilowatts(drawn.used(side)) for side in (Side.HOT, Side.COLD)]
         text += f'\nUsed by the heat flow of least cost: hot utility {used[0]} kW, cold utility {used[1]} kW'
