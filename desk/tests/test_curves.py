@@ -5,6 +5,7 @@ from __future__ import annotations
 from collections.abc import Callable
 from dataclasses import replace
 from fractions import Fraction
+from functools import lru_cache
 
 import pytest
 from conftest import CASES, example, few_of, tried
@@ -48,6 +49,7 @@ def answered(pinch: Pinch, content: bytes) -> Drawn:
     return drawn_of(case, pinch.targets(content), pinch.curves(content), pinch.flow(content))
 
 
+@lru_cache(maxsize=8)
 def curves(pinch: Pinch, content: bytes) -> Figure:
     case = completed(read_case(content))
     return curves_figure(case, pinch.targets(content), pinch.curves(content), pinch.flow(content))
@@ -59,7 +61,7 @@ def assert_readable(figure: Figure) -> None:
     assert pale(figure) == []
 
 
-@pytest.mark.parametrize('name', few_of(CASES))
+@pytest.mark.parametrize('name', few_of(CASES, ('four-stream', 'three-levels', 'two-steam-levels')))
 def test_curves_show_targets_and_pinches_on_both_scales(name: str, pinch: Pinch) -> None:
     content = example(f'{name}.csv')
     figure, case, targets = curves(pinch, content), read_case(content), pinch.targets(content)
@@ -107,7 +109,7 @@ def test_a_vapour_below_its_pinch_has_it_at_its_end(pinch: Pinch) -> None:
     assert line[0] == (8.0, 100.0)
 
 
-@pytest.mark.parametrize('name', CASES)
+@pytest.mark.parametrize('name', few_of(CASES))
 def test_balanced_curves_begin_and_end_together(name: str, pinch: Pinch) -> None:
     content = example(f'{name}.csv')
     drawn, flow = answered(pinch, content), pinch.flow(content)
@@ -240,7 +242,7 @@ def named(held: list[Stream], added: list[Utility]) -> Case:
                 tuple(replace(each, name=f'UTILITY-{at:08}') for at, each in enumerate(added)))
 
 
-@tried(3, 12)
+@tried(2, 12)
 @given(streams(), utilities())
 def test_whatever_the_case_is_the_pictures_are_right_and_can_be_read(held: list[Stream], added: list[Utility]) -> None:
     pinch, content = Pinch(), print_case(named(held, added)).encode()

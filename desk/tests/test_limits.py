@@ -9,7 +9,7 @@ from typing import Any
 
 import openpyxl
 import pytest
-from conftest import CASES, as_objects, example, of_all, pinchdesk
+from conftest import CASES, as_objects, example, few_of, of_all, pinchdesk
 from tabled import TEN, made, refusal, saved, streams, workbook
 
 from pinchdesk import Pinch, Refused, read, read_case
@@ -177,9 +177,11 @@ def test_the_exact_targets_of_a_case_in_whole_numbers_are_those_of_the_program(n
     assert as_objects(*exact_targets(spans)) == (targets.hot, targets.cold)
 
 
-@pytest.mark.parametrize('words', ['targets #', 'sweep # 5 15 5', 'whatif #', 'draw curves # -o c.svg',
-                                   'draw composite # -o c.svg', 'draw sweep # 5 15 5 -o c.svg', 'page # -o c.html',
-                                   'draw grid # net.txt -o c.svg'])
+ROUNDED = ('targets #', 'sweep # 5 15 5', 'whatif #', 'draw grid # net.txt -o c.svg', 'draw curves # -o c.svg',
+           'draw composite # -o c.svg', 'draw sweep # 5 15 5 -o c.svg', 'page # -o c.html')
+
+
+@pytest.mark.parametrize('words', few_of(ROUNDED, ROUNDED[:4]))
 def test_a_word_that_shows_targets_says_how_far_they_are_off(words: str, tmp_path: Path, pinch: Pinch) -> None:
     (tmp_path / 't.csv').write_text(ROUNDED_TABLE)
     assert pinchdesk('case', '-d', '10', 't.csv', '-o', 'c.csv', cwd=tmp_path).status == 0

@@ -208,7 +208,7 @@ def test_pictures_are_files_and_have_statuses(words: tuple[str, ...], status: in
 
 
 @WITH_BROWSER
-@pytest.mark.parametrize('width', [1280, 500])
+@pytest.mark.parametrize('width', [pytest.param(1280, marks=pytest.mark.long), 500])
 def test_a_browser_shows_the_page_whole(width: int, steam: str, tmp_path: Path) -> None:
     looked = re.sub('<meta http-equiv[^>]*>', LOOK, steam).replace('<details>', '<details open>')
     dom = run_browser([f'--window-size={width},900', '--virtual-time-budget=5000', '--dump-dom'], looked, tmp_path)
@@ -229,6 +229,7 @@ def sheets_of(pdf: Path, page: str) -> list[list[str]]:
 
 @WITH_BROWSER
 @pytest.mark.skipif(which('pdftotext') is None, reason='nothing here reads a PDF')
+@pytest.mark.long
 def test_on_paper_no_heading_stands_alone_and_no_line_is_cut(steam: str, pinch: Pinch, tmp_path: Path) -> None:
     path, page = tmp_path / 'page.pdf', steam.replace('<details>', '<details open>')
     path.write_bytes(as_pdf(page))

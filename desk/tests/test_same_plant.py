@@ -131,7 +131,7 @@ def test_a_picture_is_that_of_the_same_plant(words: str, plain: Files, other: Fi
     check_same(one, same, other)
 
 
-@pytest.mark.parametrize('words', PAGES)
+@pytest.mark.parametrize('words', few_of(PAGES, PAGES[1:]))
 def test_a_page_is_that_of_the_same_plant(words: str, plain: Files, other: Files) -> None:
     told: list[Parts] = []
     for files in (plain, other):

@@ -174,11 +174,11 @@ def test_what_cannot_be_ticked_off_goes_straight_down(pinch: Pinch) -> None:
     assert Judge(pinch, case).of(exact) is not None
 
 
+@pytest.mark.long
 def test_forbidden_pairs_stay_apart(pinch: Pinch) -> None:
-    jobs = of_all(16, 24)
-    free = searched(pinch, 'tc3', jobs)[-1]
+    free = searched(pinch, 'tc3', 24)[-1]
     pair = next(pair for pair in free.structure.pairs.values() if pair[0] != 'HOT' and pair[1] != 'COLD')
-    found = searched(pinch, 'tc3', jobs, forbid=f'forbid,{pair[0]},{pair[1]},,,,\n')
+    found = searched(pinch, 'tc3', 24, forbid=f'forbid,{pair[0]},{pair[1]},,,,\n')
     assert found and all(pair not in judged.structure.pairs.values() for judged in found)
 
 
