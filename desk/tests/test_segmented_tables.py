@@ -163,11 +163,18 @@ def test_a_curve_may_stand_on_a_sheet_of_its_own_and_in_other_units() -> None:
     (CURVED.replace('Cold streams\n', ''), 'whether `Crude` is heated or cooled is open'),
     (CURVED.replace(';125;31\n', ';125;31\n;110;40\n'), 'go up and down'),
     (CURVED.replace(';125;31\n', ';125;31\n;140;31\n'), 'do not go one way'),
-    (HEAD + 'Kero;185;45;33.0\n\nCold streams\nStream;T (°C);H (MW)\nCrude;25;0\n', 'has 2 to 200 points'),
+    (PLAIN + 'Crude;25;0\nFeed;20;0\n;130;3.3\n', 'a heating curve has 2 to 200 points, and `Crude` has 1'),
     (CURVED.replace(';125;31\n', ';125;x\n'), '`x`: no number'),
     (CURVED.replace(';125;31\n', ';398 K;31\n'), 'have different units')])
 def test_a_curve_that_is_none_is_refused(table: str, cause: str) -> None:
     assert cause in refusal(table)
+
+
+def test_a_table_of_temperatures_and_enthalpies_of_streams_is_no_heating_curve() -> None:
+    table = HEAD + 'Kero;185;45;33.0\nCrude;25;360;380.5\n\nStream;T (°C);Enthalpy (kW)\nKero;185;120\nCrude;25;3\n'
+    converted = made(table)
+    assert [stream.name for stream in converted.case.streams] == ['Kero', 'Crude']
+    assert any('of another table' in note for note in converted.notes)
 
 
 @some.composite

@@ -107,6 +107,7 @@ def bands_of(table: Table, rows: list[TableRow]) -> list[Band]:
             continue
         draft, at = drafted(table, rows, at)
         bands.append(Band(draft, cut_titles(bands) if bands else above, []))
+        draft.rows = bands[-1].rows
     if not bands and above:
         return []
     return bands

@@ -78,6 +78,8 @@ class Draft:
         self.titles = {column: cell.text for column, cell in row.filled()}
         self.heads = [row.number]
         self.beside: list[Words] = []
+        # Those below it, as far as they are known.
+        self.rows: Sequence[TableRow] = ()
         for column, cell in row.filled():
             heading, unit = heading_of(cell.text)
             if heading:
@@ -147,12 +149,15 @@ class Draft:
         return part
 
     def is_curve(self, group: range) -> bool:
-        """Whether columns have the points of heating curves: a temperature and an enthalpy, and no other number."""
+        """Whether columns have the points of heating curves: a temperature and an enthalpy, and no other number, in
+        several rows for a name; with one row for each they are properties of streams."""
         headings = {heading: column for column, heading in self.headings.items() if column in group}
         if not {Heading.SUPPLY, Heading.LOAD} <= headings.keys() or any(heading in headings for heading in NO_CURVE):
             return False
         warm, heat = (named_with_unit(self.titles[headings[heading]])[0] for heading in (Heading.SUPPLY, Heading.LOAD))
-        return warm in WARM and heat in ENTHALPY
+        named = headings.get(Heading.NAME, headings.get(Heading.NUMBER, -1))
+        names = [row.cell(named).text for row in self.rows if is_number(row.cell(headings[Heading.SUPPLY]))]
+        return warm in WARM and heat in ENTHALPY and len(names) > len({name for name in names if name not in EMPTY})
 
     def pairs(self, group: range) -> dict[int, Heading]:
         """Headings that their partner explains: `Te` and `Ts`, `Ti` and `Tf`."""
