@@ -14,9 +14,6 @@ from .cost_sheets import area_target_notes, cost_facts, currency_of, metres, mon
 from .facts import Fact, FactRow, FactTable
 from .sheet import Cell, Sheet
 
-OF_THE_PROGRAM = 'areas and prices are of the exchangers of the program: one that goes on across the kink of a ' \
-                 'stream stands as several, and where the cost law has a fixed part it costs less as one'
-
 
 def area_facts(exchanger: ExchangerArea) -> FactRow:
     """An exchanger with its area and what that is made of."""
@@ -55,10 +52,8 @@ def network_facts(areas: NetworkAreas, costs: NetworkCosts | None) -> FactRow:
 
 
 def network_notes(areas: NetworkAreas) -> list[str]:
-    """Where the real ends of a utility leave no approach, what the target beside is, and which exchangers are those of
-    the program alone."""
-    return [*map(str, areas.faults), *(area_target_notes(areas.target) if areas.target else []),
-            *([OF_THE_PROGRAM] if areas.data.case.basis.segments else [])]
+    """Where the real ends of a utility leave no approach, and what the target beside is."""
+    return [*map(str, areas.faults), *(area_target_notes(areas.target) if areas.target else [])]
 
 
 def costliest_sheets(costs: NetworkCosts | None) -> list[Sheet]:
@@ -105,8 +100,6 @@ def beside_notes(beside: AreasBeside) -> list[str]:
     notes = [str(fault) for fault in beside.faults]
     if beside.areas is None:
         return [*notes, f'areas are not shown: {beside.lacking}']
-    if beside.areas.data.case.basis.segments:
-        notes.append(OF_THE_PROGRAM)
     if beside.costs is None:
         notes.append(f'costs are not shown: {beside.lacking}')
     if beside.target.lacking:
