@@ -212,6 +212,12 @@ def test_a_tolerance_is_reported_with_how_far_it_takes_the_curve() -> None:
     assert '12 points' in told and 'K hotter than they are, on the safe side' in told
 
 
+def test_what_is_said_of_a_piece_names_a_column_that_the_table_has() -> None:
+    notes = made(CURVED.replace(';220;', ';220.04;')).notes
+    assert 'row 8 column 2: 220.04 °C is rounded to 220 °C' in notes
+    assert not any('column 4' in note for note in notes)
+
+
 def test_more_segments_than_a_case_has_streams_are_refused_in_these_words() -> None:
     rows = ''.join(f'Crude;{at};{at + 1};{300 + at}\n' for at in range(31))
     assert 'a case has at most 30 cold streams, of which each segment of a stream is one, and this is the 31st' in \

@@ -39,12 +39,17 @@ class Told:
     notes: list[str] = field(default_factory=list)
     # The notes of numbers that were rounded.
     roundings: set[str] = field(default_factory=set)
+    # Columns that the table has not, with those whose numbers stand there.
+    origins: dict[int, int] = field(default_factory=dict)
 
     def fault(self, row: int, column: int | None, cause: str) -> None:
-        self.faults.append(self.table.refusal(row, column, cause))
+        self.faults.append(self.table.refusal(row, self.column(column), cause))
 
     def note(self, row: int, column: int | None, what: str) -> None:
-        self.notes.append(f'{self.table.place(row, column)}: {what}')
+        self.notes.append(f'{self.table.place(row, self.column(column))}: {what}')
+
+    def column(self, column: int | None) -> int | None:
+        return column if column is None else self.origins.get(column, column)
 
     def rounding(self, row: int, column: int | None, what: str) -> None:
         """Tells what was rounded: of a case in units of its own it is told by these."""

@@ -53,9 +53,11 @@ def with_curves(blocks: Blocks, body: Body, mark: str, tolerance: Fraction, told
     """The table with the pieces of its heating curves in place of their points; the tolerance is in K."""
     if not any(block.layout.curve for block in blocks.blocks):
         return blocks, body
+    # The targets of pieces are in columns of their own, which the table has not.
     width = max(len(row.cells) for row in told.table.rows)
-    layouts = {place_of(block.layout): with_target(block.layout, width) for block in blocks.blocks
-               if block.layout.curve}
+    curved = [block.layout for block in blocks.blocks if block.layout.curve]
+    layouts = {place_of(layout): with_target(layout, width + at) for at, layout in enumerate(curved)}
+    told.origins |= {width + at: layout.columns[Heading.SUPPLY] for at, layout in enumerate(curved)}
     made = tuple(replace(block, layout=layouts.get(place_of(block.layout), block.layout)) for block in blocks.blocks)
     lines: list[Line] = []
     for is_point, group in groupby(named_down(body.lines), lambda line: line.layout.curve and line.is_stream):
