@@ -126,6 +126,11 @@ def test_examples_have_their_published_coefficients(name: str, area: str, formul
     assert near(found.area, area) and near(target.area, formula) and target.bound is bound
 
 
+def test_shells_beyond_number_are_refused(pinch: Pinch) -> None:
+    with pytest.raises(Refused, match='exchanger E: [0-9]+ shells of 1-2 flow cannot do its duty'):
+        areas(SMALL.replace('counter-current,,,,exchanger', '1-2,1e-30,,,shell'), pinch)
+
+
 MONEY_ROWS = '\n'.join(['#price,$/(kW a),1,,,,', '#cost,$/a,1000,,,,',
                         *law_rows('10000', '400', '0.8', 'factor', '0.2')])
 

@@ -28,6 +28,10 @@ from .log_mean import log_mean
 from .shells import Duty, correction, shells_of, whole_shells
 
 
+# No exchanger has more shells in series.
+MOST_SHELLS = 1000
+
+
 class NoAreas(DeskError):
     """The network is not accepted: what is said of it, and its verdict."""
 
@@ -204,7 +208,7 @@ def part_area(data: CostData, name: str, passage: Passage, duty: Duty, warmer: i
     if build.flow is Flow.ONE_TWO:
         assert build.part is not None
         shells = whole_shells(shells_of(wide, build.part))
-        found_factor = correction(wide, shells)
+        found_factor = correction(wide, shells) if shells <= MOST_SHELLS else None
         if found_factor is None:
             raise refused(f'exchanger {name}', f'{shells} shells of 1-2 flow cannot do its duty: take it '
                           'counter-current')
