@@ -112,3 +112,9 @@ def test_a_supertarget_takes_a_film_too() -> None:
     answer = supertarget(files_of(case=case), SupertargetOptions('4', '10', '2', film='0.5 kW/m2K'))
     assert answer.notes[0].startswith('case.txt: the film coefficient 0.5 kW/m2K is taken for H')
     assert answer.sheets[0] == supertarget(files_of(case=SMALL.encode()), SupertargetOptions('4', '10', '2')).sheets[0]
+
+
+def test_a_number_of_which_no_digit_is_certain_is_a_question_mark() -> None:
+    case = SMALL.replace('counter-current,,,,exchanger', '1-2,1e-30,1e-30,m2,shell').encode()
+    facts = {fact.name: fact.value for fact in cost(files_of(case=case)).facts[0]}
+    assert facts['area in 1-2 shells'] == '?' and facts['area by the formula'] == Decimal('39.7')

@@ -10,7 +10,7 @@ from ..costs.enclosure import Enclosure
 from ..costs.network_areas import ExchangerArea, NetworkAreas
 from ..costs.network_costs import ExchangerPrice, NetworkCosts
 from ..formats.shown import decimal
-from .cost_sheets import area_target_notes, cost_facts, currency_of, metres, money, notes_sheets
+from .cost_sheets import area_target_notes, certain, cost_facts, currency_of, metres, money, notes_sheets
 from .facts import Fact, FactRow, FactTable
 from .sheet import Cell, Sheet
 
@@ -21,8 +21,8 @@ def area_facts(exchanger: ExchangerArea) -> FactRow:
             Fact('duty', Decimal(decimal(exchanger.duty / 1000, 3)), 'kW'),
             Fact('U', None if exchanger.coefficient is None else Decimal(decimal(exchanger.coefficient / 1000, 6)),
                  'kW/m²K'),
-            Fact('mean difference', Decimal(exchanger.mean.shown(3)), 'K'),
-            Fact('Ft', Decimal(exchanger.factor.shown(4))), Fact('shells', Decimal(exchanger.shells)),
+            Fact('mean difference', certain(exchanger.mean, 3), 'K'),
+            Fact('Ft', certain(exchanger.factor, 4)), Fact('shells', Decimal(exchanger.shells)),
             Fact('area', metres(exchanger.area), 'm²'))
 
 
@@ -45,7 +45,7 @@ def network_facts(areas: NetworkAreas, costs: NetworkCosts | None) -> FactRow:
     beside: FactRow = ()
     if areas.target and areas.efficiency:
         beside = (Fact('area by the formula with the same utilities', metres(areas.target.area), 'm²'),
-                  Fact('area efficiency', Decimal((areas.efficiency * 100).shown(1)), '%'))
+                  Fact('area efficiency', certain(areas.efficiency * 100, 1), '%'))
     return (Fact('area', metres(areas.area), 'm²'), *beside, Fact('exchangers', Decimal(len(areas.exchangers))),
             Fact('shells', Decimal(areas.shells)),
             *(cost_facts(costs.cost, currency_of(costs.data)) if costs else ()))
@@ -70,7 +70,7 @@ def beside_sheet(beside: AreasBeside, areas: NetworkAreas) -> Sheet:
     """The sums of a network beside the formula with the same utilities, and the targets of the case."""
     target, same = beside.target, areas.target
     paid = target.cost.built_area if target.cost else target.area.area if target.area else None
-    efficiency = None if areas.efficiency is None else Decimal((areas.efficiency * 100).shown(1))
+    efficiency = None if areas.efficiency is None else certain(areas.efficiency * 100, 1)
     rows: list[tuple[Cell, ...]] = [
         ('area', metres(areas.area), metres(same.area) if same else None, None if paid is None else metres(paid),
          'm²'),

@@ -18,19 +18,26 @@ from ..costs.supertarget import LeastCost, Supertarget, SupertargetPoint
 from ..formats.shown import Shown, decimal
 from ..text import printable
 from .facts import Fact, FactRow, FactTable
-from .sheet import Sheet
+from .sheet import Cell, Sheet
 
 NO_BOUND = 'coefficients differ, so the area by the formula is no bound: a network that crosses the curves may have ' \
            'less'
 BOUND = 'all coefficients are equal: no network with the same utilities has less area than the formula'
 
 
-def metres(area: Enclosure) -> Decimal:
-    return Decimal(area.shown(2))
+def certain(number: Enclosure, places: int) -> Cell:
+    """A number with at most so many decimals, of the digits on which both of its ends agree; `?` where they agree on
+    none."""
+    text = number.shown(places)
+    return text if text == '?' else Decimal(text)
 
 
-def money(amount: Enclosure | Fraction) -> Decimal:
-    return Decimal(amount.shown(2) if isinstance(amount, Enclosure) else decimal(amount, 2))
+def metres(area: Enclosure) -> Cell:
+    return certain(area, 2)
+
+
+def money(amount: Enclosure | Fraction) -> Cell:
+    return certain(amount, 2) if isinstance(amount, Enclosure) else Decimal(decimal(amount, 2))
 
 
 def currency_of(data: CostData) -> str:
