@@ -6,9 +6,11 @@ from decimal import Decimal
 from conftest import example
 from costed import NETWORK, SMALL
 
-from pinchdesk import Pinch
+from pinchdesk import Pinch, completed, read_case
+from pinchdesk.costs.areas_beside import target_beside_flow
 from pinchdesk.errors import Status
-from pinchdesk.report.page import Given, page_of, review_of
+from pinchdesk.report.page import Answered, Given, page_of, review_of
+from pinchdesk.report.page_areas import case_areas
 from pinchdesk.report.sheet import Sheet
 from pinchdesk.words.audit_word import audit
 from pinchdesk.words.table_word import table
@@ -115,12 +117,24 @@ def test_the_page_has_targets_exchangers_and_pictures() -> None:
     assert page.count('<img') == 6
 
 
-def test_a_page_without_areas_says_what_they_need_and_one_of_a_case_without_them_nothing() -> None:
-    page = page_with(without('#film,W'))
-    assert page.count('areas are not shown: case film coefficient of W is missing') == 2 and page.count('<img') == 4
-    assert 'Area before a network' in page_with(without('#law'))
+def sheets_of_page(case: str, pinch: Pinch) -> list[Sheet]:
+    """What a page has of the areas of a case before a network."""
+    whole = completed(read_case(case))
+    return case_areas(target_beside_flow(whole, pinch.targets(whole), pinch.uses(whole)))
+
+
+def test_a_page_without_areas_says_what_they_need(pinch: Pinch) -> None:
+    notes, = sheets_of_page(without('#film,W'), pinch)
+    assert notes.rows[0][0] == 'areas are not shown: case film coefficient of W is missing: enter a row ' \
+                               '`#film,W,VALUE,kW/m2K,,,`'
+    area, notes = sheets_of_page(without('#law'), pinch)
+    assert area.title == 'Area before a network' and str(notes.rows[0][0]).startswith('costs are not shown: ')
+
+
+def test_a_page_of_a_case_that_says_nothing_of_areas_has_none(pinch: Pinch) -> None:
     bare = ''.join(f'{row}\n' for row in SMALL.split('\n') if row and row[0] != '#')
-    assert 'Areas and costs' not in page_with(bare)
+    whole = completed(read_case(bare))
+    assert Answered(whole, pinch.targets(bare), pinch.curves(bare), pinch.uses(bare)).areas is None
 
 
 def test_a_rejected_network_has_no_areas() -> None:
