@@ -7,6 +7,7 @@ import os
 import threading
 import time
 from dataclasses import asdict
+from fractions import Fraction
 from itertools import pairwise
 from pathlib import Path
 from tempfile import TemporaryDirectory
@@ -247,6 +248,16 @@ def test_areas_stand_beside_a_network_and_beside_the_slider(tmp_path: Path) -> N
     after = bench.slider(view.version, '12')
     assert isinstance(after, Slider) and after.network.startswith('Rejected: E2 is too close at its cold end')
     assert view.texts == bench.view().texts
+
+
+def test_the_rest_takes_one_utility_a_piece_or_the_cheapest_at_each_temperature(tmp_path: Path) -> None:
+    hand = Hand(bench_of(tmp_path, 'two-steam-levels'))
+    one = hand.does('finish')
+    hand.does('undo')
+    parts = hand.does('finish', by='parts')
+    assert one.verdict.kind == parts.verdict.kind == 'accepted'
+    assert (one.score.placed, parts.score.placed) == (4, 6)
+    assert Fraction(parts.score.cost.split()[0]) < Fraction(one.score.cost.split()[0])
 
 
 def test_segments_of_a_stream_are_in_one_row_of_the_grid(tmp_path: Path) -> None:

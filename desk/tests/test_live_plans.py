@@ -12,7 +12,7 @@ from hypothesis import strategies as some
 
 from pinchdesk.formats.case import Side, completed, read_case
 from pinchdesk.formats.network import read_network
-from pinchdesk.live import gestures
+from pinchdesk.live import gestures, serving
 from pinchdesk.live.gestures import NotDone
 from pinchdesk.live.judgement import Whole, asked_whole, judged_stand, reachable
 from pinchdesk.live.network_lines import TextLayout, begun_plan, read_plan, write_plan
@@ -128,7 +128,7 @@ def done(plan: HandPlan, kind: str, whole: Whole, data: some.DataObject) -> tupl
             raise NotDone('no partner')
         return seated(pieces, data.draw(some.sampled_from(ways_there))[1]), (), False
     if kind == 'finish':
-        return gestures.finish(plan), (), False
+        return serving.finish(plan), (), False
     if not plan.placed:
         raise NotDone('nothing placed')
     exchanger = data.draw(some.sampled_from(plan.placed))

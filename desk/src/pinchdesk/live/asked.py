@@ -10,7 +10,7 @@ from ..formats.amounts import exact
 from ..formats.case import Case
 from ..formats.shown import Shown
 from ..formats.whole_streams import whole_name
-from . import gestures
+from . import gestures, serving
 from .adapting import adapted
 from .case_lines import added, removed, with_cell, with_difference
 from .gestures import NotDone
@@ -139,17 +139,19 @@ def duty_told(plan: HandPlan, name: str) -> str:
 
 def utility(known: Known, fields: Fields) -> tuple[HandPlan, str]:
     plan = planned(known, True)
-    made = gestures.serve(plan, fields.text('piece'), fields.maybe('utility'))
+    made = serving.serve(plan, fields.text('piece'), fields.maybe('utility'))
     return made, placed_told(plan, made)
 
 
 def finish(known: Known, fields: Fields) -> tuple[HandPlan, str]:
-    return gestures.finish(planned(known)), 'the rest by utilities'
+    if fields.maybe('by') == 'parts':
+        return serving.finish_in_parts(planned(known)), 'the rest by utilities, each as far as it reaches'
+    return serving.finish(planned(known)), 'the rest by utilities'
 
 
 def change(known: Known, fields: Fields) -> tuple[HandPlan, str]:
     name, other = fields.text('exchanger'), fields.text('utility')
-    return gestures.change_utility(planned(known), name, other), f'{name} by {other}'
+    return serving.change_utility(planned(known), name, other), f'{name} by {other}'
 
 
 def split(known: Known, fields: Fields) -> tuple[HandPlan, str]:

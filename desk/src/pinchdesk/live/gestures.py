@@ -14,8 +14,8 @@ from ..formats.case import ANY_HEAT, Side, Utility
 from ..formats.shown import Shown
 from ..search.reduce.structure import Course, Lane, Parting, Through, throughs
 from .kinks import joined_with, placed_along
-from .pieces import (HandPlan, changed, cut, fresh_open, merged, named, neighbours, pair_with, reaches, replaced,
-                     side_at, utilities_for, without_idle_partings)
+from .pieces import (HandPlan, changed, cut, fresh_open, merged, named, neighbours, pair_with, replaced,
+                     side_at, without_idle_partings)
 from .seats import Seat, seated, seatings, settled
 
 NAME = re.compile('[A-Za-z0-9][A-Za-z0-9_-]{0,15}')
@@ -219,47 +219,6 @@ def affine_end(lower: HandPlan, upper: HandPlan, exchanger: str, low: Fraction, 
         elif room < 0:
             first = max(first, -room / (more - room))
     return low + (high - low) * last if first <= last else Fraction(0)
-
-
-def serve(plan: HandPlan, piece: str, utility: str | None) -> HandPlan:
-    """An open piece is served by a utility: that of this name, else the cheapest that reaches its end."""
-    reach = plan.piece(open_piece(plan, piece))
-    if utility is not None:
-        return place(plan, piece, utility)
-    used = plan.used(True)
-    reaching = [other for other in utilities_for(plan.case, reach.stream)
-                if reaches(other, reach.stream, reach.outlet)]
-    if not reaching:
-        raise NotDone(f'No utility of the case reaches the end of this piece of {reach.stream.name}: add one to the '
-                      'case.', ('piece', piece))
-    enough = [other for other in reaching if used[other.name] + reach.heat <= other.most]
-    if not enough:
-        names = ' and '.join(other.name for other in reaching)
-        raise NotDone(f'{names} cannot serve this piece of {reach.stream.name}: it would be more than there is.',
-                      ('piece', piece))
-    return place(plan, piece, min(enough, key=lambda other: other.price).name, duty=reach.heat)
-
-
-def finish(plan: HandPlan) -> HandPlan:
-    """All that is open is served by utilities."""
-    if not plan.open:
-        raise NotDone('Nothing is open.')
-    for piece in plan.open:
-        plan = serve(plan, piece, None)
-    return plan
-
-
-def change_utility(plan: HandPlan, exchanger: str, utility: str) -> HandPlan:
-    """A heater or a cooler takes another utility."""
-    before = plan.utility_of(known(plan, exchanger))
-    after = plan.sources.get(utility)
-    if before is None or not isinstance(after, Utility) or after.side is not before.side:
-        raise NotDone(f'{exchanger} cannot take {utility}.', ('exchanger', exchanger))
-    stream = plan.streams_of(exchanger)[0]
-    made = changed(plan, pairs={exchanger: pair_with(stream, utility)})
-    if not keeps_approach(made, exchanger):
-        raise NotDone(f'{utility} does not reach the end of {exchanger}.', ('exchanger', exchanger))
-    return made
 
 
 def split(plan: HandPlan, piece: str, share: Fraction) -> HandPlan:

@@ -21,10 +21,10 @@ All POSTs want `Content-Type: application/json`. Whatever is wrong with the addr
 Gestures (`exchanger`, `piece`, `stream`, `utility` are the `name`s or `id`s of the view; a heat is a text as typed, in
 the heat unit of the case; `?` may be left out):
 
-- `place {piece, partner, duty?, hot_split?, cold_split?}`: `partner` is another piece or a utility.
+- `place {piece, partner, duty?, hot_seat?, cold_seat?}`: `partner` is another piece or a utility; an `Offer` has all.
 - `take {exchanger}`: it becomes open. `grow {exchanger}`: as large as it can be. `duty {exchanger, heat}`.
-- `utility {piece, utility?}`: the piece is served by that utility, or by the cheapest that reaches; `finish {}`: all
-  are.
+- `utility {piece, utility?}`: the piece is served by that utility, or by the cheapest that reaches; `finish {by?}`: all
+  are; with `by` `parts` by the cheapest at each temperature, so that a piece may take several.
 - `change {exchanger, utility}`: a heater or a cooler takes another utility.
 - `split {piece, share?}`: a lane of this share in percent (50 unless said) beside the piece; `shares {joint, shares}`:
   the shares of all lanes of a joint in percent, as texts; `join {joint}`: the lanes of a joint, without exchangers but
