@@ -173,3 +173,21 @@ def test_the_page_for_the_reviewer_has_no_script(tmp_path: Path) -> None:
         heard = asked(running, 'GET', at(running, 'report'))
         assert heard.status == 200 and b'<h1>' in heard.body and b'<script' not in heard.body
         assert heard.headers['content-security-policy'].startswith("default-src 'none'; style-src 'unsafe-inline'")
+
+
+@pytest.mark.long
+def test_a_network_is_searched_from_here_and_drawn(tmp_path: Path) -> None:
+    with served(bench_of(tmp_path, 'tc3')) as running:
+        version = asked(running, 'GET', at(running, 'view')).json['version']
+        heard = asked(running, 'POST', at(running, 'search'), {'version': version, 'seconds': '3', 'above': '10'})
+        assert heard.status == 200 and 'refused' not in heard.json
+        view = heard.json['view']
+        assert view['verdict']['kind'] == 'accepted' and view['score']['placed'] <= 7
+        assert view['steps'][-1]['text'].startswith('searched')
+        wrong = asked(running, 'POST', at(running, 'search'), {'version': view['version'], 'seconds': 'long'})
+        assert 'number of seconds' in wrong.json['refused']['text']
+        assert asked(running, 'POST', at(running, 'search'), {'version': version}).status == 409
+        for name in ('grid', 'curves'):
+            picture = asked(running, 'GET', at(running, f'picture/{name}.svg'))
+            assert picture.status == 200 and picture.headers['content-type'].startswith('image/svg+xml')
+            assert b'<svg' in picture.body and b'<script' not in picture.body

@@ -7,6 +7,7 @@ from collections.abc import Mapping
 from dataclasses import dataclass, replace
 
 from ..errors import DeskError, OutputError
+from ..formats.amounts import seconds_of
 from ..program.run import Pinch
 from ..program.verdicts import TooFine
 from .areas import area_targets
@@ -22,7 +23,7 @@ from .seen import seen, slid
 from .view import Mark, Offer, Refusal, Slider, View, WayOffer
 from .ways import told_ways, ways_of
 
-MOST_STEPS = 500
+MOST_STEPS, LONGEST_SEARCH = 500, 300
 EMPTY_CASE = 'contribution,,50,,,,\n'
 
 
@@ -193,14 +194,44 @@ class Bench:
         judged = judgement_of(Standing(whole, plan, stand, None, 0, 0))
         return f'{judged.title}: {judged.text}'
 
+    @property
+    def titles(self) -> tuple[str, str]:
+        return self.case_file.name, self.network_file.name
+
     def report(self) -> str:
         """The page for the reviewer, of both texts as they are."""
-        from ..report.page import Given, page_of, review_of
+        from .other_words import report
+        return report(self.known_now(), self.titles)
+
+    def picture(self, name: str) -> str:
+        """A picture as an SVG; `KeyError` where there is none of this name."""
+        from .other_words import picture
+        return picture(self.known_now(), name, self.titles)
+
+    def known_now(self) -> Known:
         with self.lock:
-            snapshot = self.steps[self.at].snapshot
-        case, network = (Given(file.name, file.name, content) for file, content in
-                         ((self.case_file, snapshot.case_bytes), (self.network_file, snapshot.network_bytes)))
-        return page_of(review_of(self.knowing.pinch, case, [network]))
+            return self.now
+
+    def search(self, version: object, options: dict[str, str]) -> GestureDone:
+        """A network that is searched from what the page saw, as a step; meanwhile the desk goes on, and where something
+        has changed then, nothing is done."""
+        from .other_words import searched
+        with self.lock:
+            if version != self.version:
+                return GestureDone(self.shown(), stale=True)
+            known = self.now
+        try:
+            if seconds_of(options.get('seconds', '10')) > LONGEST_SEARCH:
+                raise NotDone(f'Here a search takes at most {LONGEST_SEARCH} seconds.')
+            text, told_of = searched(known, self.titles, {'seconds': '10', **options})
+        except DeskError as fault:
+            return GestureDone(self.view(), Refusal(told(fault)))
+        done = self.gesture(version, {'kind': 'texts', 'network': text})
+        if done.refused is None and not done.stale:
+            with self.lock:
+                self.steps[self.at] = replace(self.steps[self.at], told=f'searched: {told_of}'.rstrip(': '))
+                return GestureDone(self.shown())
+        return done
 
     def slider(self, version: object, difference: str) -> Slider | GestureDone:
         """Targets and curves at another least approach; nothing is written."""

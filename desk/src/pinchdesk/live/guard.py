@@ -79,7 +79,7 @@ def is_own_get(headers: Mapping[str, str], path: str) -> bool:
     if site == 'same-origin':
         return True
     goes = headers.get('sec-fetch-mode') == 'navigate' and headers.get('sec-fetch-dest') == 'document'
-    return goes and path in ('', 'report')
+    return goes and path == ''
 
 
 def one_each(scope: Scope) -> dict[str, str] | None:

@@ -8,6 +8,7 @@ import socket
 from collections.abc import Awaitable, Callable, Mapping
 from contextlib import suppress
 from dataclasses import asdict
+from functools import partial
 from pathlib import Path
 from typing import Any
 
@@ -29,6 +30,9 @@ KINDS = {'.html': 'text/html', '.css': 'text/css',
          '.js': 'text/javascript', '.svg': 'image/svg+xml'}
 # How often it is looked whether somebody else has written a file, in seconds.
 LOOKS = 0.5
+# The pictures by their addresses, and what a search may be told.
+PICTURES = {'picture/grid.svg': 'grid', 'picture/curves.svg': 'curves'}
+SEARCHED = ('seconds', 'above')
 Receive = Callable[[], Awaitable[Any]]
 Send = Callable[[Any], Awaitable[None]]
 
@@ -118,21 +122,23 @@ class LiveDesk:
         if path == 'view':
             return answer(asdict(await run_in_threadpool(self.bench.view)))
         if path == 'report':
-            return await self.reported()
+            return await self.worded(self.bench.report, 'text/html')
+        if path in PICTURES:
+            return await self.worded(partial(self.bench.picture, PICTURES[path]), 'image/svg+xml')
         name = 'index.html' if path == '' else path.removeprefix('page/') if path.startswith('page/') else ''
         if name not in self.files:
             return nothing()
         content, kind = self.files[name]
         return Response(content, media_type=kind)
 
-    async def reported(self) -> Response:
-        """The page for the reviewer, as `pinchdesk page` writes it; its styles are inside of it, and it has no
-        script."""
+    async def worded(self, asks: Callable[[], str], kind: str) -> Response:
+        """What a word of the command says: the page for the reviewer or a picture. Its styles are inside of it, and it
+        has no script."""
         try:
-            content = await run_in_threadpool(self.bench.report)
+            content = await run_in_threadpool(asks)
         except DeskError as fault:
             return Response(' '.join(lines_of(fault)), media_type='text/plain')
-        response = Response(content, media_type='text/html')
+        response = Response(content, media_type=kind)
         response.headers['Content-Security-Policy'] = OF_REPORT
         return response
 
@@ -149,6 +155,11 @@ class LiveDesk:
         if path == 'slider' and isinstance(asked.get('difference'), str):
             found = await run_in_threadpool(self.bench.slider, version, asked['difference'])
             return answer(asdict(found)) if isinstance(found, Slider) else told(found)
+        if path == 'search':
+            options = {name: value for name, value in asked.items() if name in SEARCHED and isinstance(value, str)}
+            done = await run_in_threadpool(self.bench.search, version, options)
+            self.tell()
+            return told(done)
         if path == 'close':
             self.close()
             return answer({})

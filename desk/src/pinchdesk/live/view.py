@@ -14,6 +14,10 @@ What the page asks, below `/TOKEN/`:
   the first offer with this `partner`, and the page sends its `gesture` as it is. The same for 409.
 - `POST ways {"version": n}` answers `{"ways": [Way, ..]}`, those that mend first.
 - `POST slider {"version": n, "difference": text}` answers a `Slider`, or `{"refused": Refusal}`; nothing is written.
+- `POST search {"version": n, "seconds"?: text, "above"?: text}` searches a network of few exchangers for so long (10
+  unless said), at most so many percent above the least cost, from the present one where that is accepted; it answers as
+  a gesture does, when the time is over. `GET report` is the page for the reviewer, `GET picture/grid.svg` and
+  `GET picture/curves.svg` are pictures, each for a window of its own. `POST close {}` ends the desk.
 - WebSocket `changes`: a JSON number, the version, whenever it has changed (and once at the beginning).
 
 All POSTs want `Content-Type: application/json`. Whatever is wrong with the address is 404.
