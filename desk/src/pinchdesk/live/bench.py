@@ -3,6 +3,7 @@ files before it counts."""
 from __future__ import annotations
 
 import threading
+from collections import OrderedDict
 from collections.abc import Mapping
 from dataclasses import dataclass, replace
 
@@ -20,10 +21,10 @@ from .offers import offers_of
 from .network_view import Standing, judgement_of
 from .own_files import ChangedOutside, OwnFile
 from .seen import seen, slid
-from .view import Mark, Offer, Refusal, Slider, View, WayOffer
+from .view import FileNames, Mark, Offer, Refusal, Slider, StepMade, View, WayOffer
 from .ways import told_ways, ways_of
 
-MOST_STEPS, LONGEST_SEARCH = 500, 300
+MOST_STEPS, MOST_VIEWS, LONGEST_SEARCH = 500, 50, 300
 EMPTY_CASE = 'contribution,,50,,,,\n'
 
 
@@ -46,6 +47,7 @@ class Bench:
         self.case_file, self.network_file = case_file, network_file
         self.lock = threading.RLock()
         self.version = 1
+        self.views: OrderedDict[Snapshot, View] = OrderedDict()
         self.saved = 'saved'
         kept = case_file.taken()
         text = as_text(case if case is not None else kept if kept is not None else EMPTY_CASE.encode())
@@ -68,8 +70,15 @@ class Bench:
             return self.shown()
 
     def shown(self) -> View:
-        names = (self.case_file.name, self.network_file.name, self.saved)
-        return seen(self.now, self.version, names, [step.told for step in self.steps], self.at)
+        """The view now; what it shows of both texts is worked out once."""
+        snapshot = self.steps[self.at].snapshot
+        if snapshot not in self.views:
+            self.views[snapshot] = seen(self.now)
+            while len(self.views) > MOST_VIEWS:
+                self.views.popitem(last=False)
+        steps = tuple(StepMade(step.told, number == self.at) for number, step in enumerate(self.steps))
+        return replace(self.views[snapshot], version=self.version, files=FileNames(*self.titles, self.saved),
+                       steps=steps, can_undo=self.at > 0, can_redo=self.at < len(self.steps) - 1)
 
     def gesture(self, version: object, gesture: Mapping[str, object]) -> GestureDone:
         """Does a gesture on what the page saw."""

@@ -1,8 +1,6 @@
 """The view of what is known, and what a slider shows."""
 from __future__ import annotations
 
-from collections.abc import Sequence
-
 from ..formats.case import Case
 from ..formats.shown import Shown
 from ..program.answers import Targets
@@ -13,26 +11,25 @@ from .grid_view import Lines, grid_picture, laid_out
 from .judgement import Whole
 from .known import Known
 from .network_view import exchanger_rows, faults_of, judgement_of, marks_of, score_of, sentence_of
-from .view import Difference, FileNames, Judgement, ScoreView, Slider, StepMade, Texts, UnitNames, View
+from .view import Difference, FileNames, Judgement, ScoreView, Slider, Texts, UnitNames, View
 
 NO_UNITS = UnitNames('°C', 'K', 'kW', 'kW/K', '', '')
 NO_DIFFERENCE = Difference('', 0.0, 0.0, 0.0, 0.0, '')
 
 
-def seen(known: Known, version: int, names: tuple[str, str, str], steps: Sequence[str], at: int) -> View:
-    """All that the page shows."""
+def seen(known: Known) -> View:
+    """All that the page shows of both texts; what it shows of files and steps is not in it."""
     case, plan, standing = known.case, known.plan, known.standing
     lines = lines_of_known(known)
     return View(
-        version, FileNames(*names), unit_names(case) if case else NO_UNITS,
+        0, FileNames('', '', ''), unit_names(case) if case else NO_UNITS,
         difference_of(case) if case else NO_DIFFERENCE, judgement(known),
         score_of(standing) if standing else score_of_case(known),
         stream_rows(case) if case else (), utility_rows(plan or case) if case else (),
         forbid_rows(case) if case else (),
         curve_picture(known.whole) if known.whole else None, None, grid_picture(lines) if lines else None,
         exchanger_rows(lines, standing) if lines and standing else (),
-        tuple(StepMade(step, number == at) for number, step in enumerate(steps)), at > 0, at < len(steps) - 1,
-        Texts(known.snapshot.case, known.snapshot.network), known.read_only)
+        (), False, False, Texts(known.snapshot.case, known.snapshot.network), known.read_only)
 
 
 def lines_of_known(known: Known) -> Lines | None:

@@ -7,7 +7,6 @@ import json
 import socket
 from collections.abc import Awaitable, Callable, Mapping
 from contextlib import suppress
-from dataclasses import asdict
 from functools import partial
 from pathlib import Path
 from typing import Any
@@ -44,7 +43,8 @@ def page_files(folder: Path = PAGE) -> dict[str, tuple[bytes, str]]:
 
 
 def answer(content: object, status: int = 200) -> Response:
-    text = json.dumps(content, ensure_ascii=True, separators=(',', ':'))
+    """A dataclass, or what has some in it, as JSON: an object with its fields."""
+    text = json.dumps(content, ensure_ascii=True, separators=(',', ':'), default=vars)
     return Response(text, status, media_type='application/json')
 
 
@@ -120,7 +120,7 @@ class LiveDesk:
 
     async def got(self, path: str) -> Response:
         if path == 'view':
-            return answer(asdict(await run_in_threadpool(self.bench.view)))
+            return answer(await run_in_threadpool(self.bench.view))
         if path == 'report':
             return await self.worded(self.bench.report, 'text/html')
         if path in PICTURES:
@@ -154,7 +154,7 @@ class LiveDesk:
             return listed('ways', await run_in_threadpool(self.bench.ways, version))
         if path == 'slider' and isinstance(asked.get('difference'), str):
             found = await run_in_threadpool(self.bench.slider, version, asked['difference'])
-            return answer(asdict(found)) if isinstance(found, Slider) else told(found)
+            return answer(found) if isinstance(found, Slider) else told(found)
         if path == 'search':
             options = {name: value for name, value in asked.items() if name in SEARCHED and isinstance(value, str)}
             done = await run_in_threadpool(self.bench.search, version, options)
@@ -197,9 +197,9 @@ async def ended(window: WebSocket) -> None:
 
 
 def told(done: GestureDone) -> Response:
-    content: dict[str, View | Refusal | dict[str, Any]] = {'view': asdict(done.view)}
+    content: dict[str, View | Refusal] = {'view': done.view}
     if done.refused:
-        content['refused'] = asdict(done.refused)
+        content['refused'] = done.refused
     return answer(content, 409 if done.stale else 200)
 
 
@@ -207,7 +207,7 @@ def listed(name: str, found: object) -> Response:
     if isinstance(found, GestureDone):
         return told(found)
     assert isinstance(found, tuple)
-    return answer({name: [asdict(offer) for offer in found]})
+    return answer({name: found})
 
 
 class Served:
