@@ -64,11 +64,23 @@ class HandPlan:
     @cached_property
     def reaches(self) -> Mapping[End, Reach]:
         """Each end of each exchanger on a stream, by the name of the exchanger and the side."""
+        return self.reaches_on(self.case.streams)
+
+    def reaches_on(self, streams: Iterable[Stream]) -> dict[End, Reach]:
         found: dict[End, Reach] = {}
-        for stream in self.case.streams:
+        for stream in streams:
             state = Fraction(stream.side is Side.HOT) if stream.latent else Fraction(stream.supply)
             led(self, stream, self.structure.courses[stream.name], Fraction(stream.size), state, found)
         return found
+
+    def with_duties(self, duties: Mapping[str, Fraction]) -> HandPlan:
+        """A plan with other duties of some exchangers. What it has of streams that they do not touch is not worked out
+        anew."""
+        made = HandPlan(self.case, self.structure, {**self.duties, **duties})
+        touched = {stream.name: stream for name in duties for stream in self.streams_of(name)}
+        # Where a cached property keeps what it found.
+        made.__dict__['reaches'] = {**self.reaches, **made.reaches_on(touched.values())}
+        return made
 
     @cached_property
     def sources(self) -> Mapping[str, Source]:
@@ -120,6 +132,11 @@ class HandPlan:
     def approach(self, name: str) -> int:
         """The least difference that an exchanger has to keep."""
         return sum(self.sources[source].contribution for source in self.pairs[name])
+
+    @cached_property
+    def all_differences(self) -> Mapping[str, tuple[Fraction, Fraction]]:
+        """The differences of all that stands."""
+        return {name: self.differences(name) for name in self.placed}
 
     def differences(self, name: str) -> tuple[Fraction, Fraction]:
         """The differences at the hot and at the cold end."""

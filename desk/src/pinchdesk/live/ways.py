@@ -132,8 +132,8 @@ def turned_round(way: Shift) -> Shift:
 
 def moved(plan: HandPlan, way: Shift, heat: Fraction) -> HandPlan:
     """The plan with so much heat moved; the duties may be anything then."""
-    duties = {leg.exchanger: plan.duties[leg.exchanger] + (heat if leg.gains else -heat) for leg in way.legs}
-    return changed(plan, duties=duties)
+    return plan.with_duties({leg.exchanger: plan.duties[leg.exchanger] + (heat if leg.gains else -heat)
+                             for leg in way.legs})
 
 
 def limits_of(plan: HandPlan, way: Shift) -> list[Bound]:
@@ -143,8 +143,10 @@ def limits_of(plan: HandPlan, way: Shift) -> list[Bound]:
     for leg in way.legs:
         if not leg.gains:
             limits.append(Bound(plan.duties[leg.exchanger], Fraction(-1), f'{leg.exchanger} goes', leg.exchanger))
-    for name in plan.placed:
-        before, behind, approach = plan.differences(name), other.differences(name), plan.approach(name)
+    touched = {source for leg in way.legs for source in plan.pairs[leg.exchanger]} - plan.utilities
+    for name, before in plan.all_differences.items():
+        behind = other.differences(name) if touched.intersection(plan.pairs[name]) else before
+        approach = plan.approach(name)
         for end, now, then in zip(('hot', 'cold'), before, behind):
             if now != then or now < approach:
                 limits.append(Bound(now - approach, then - now, f'{name} too close at its {end} end', name))
