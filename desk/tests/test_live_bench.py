@@ -41,6 +41,7 @@ def test_tc3_is_made_by_hand_then_broken_and_mended(tmp_path: Path) -> None:
         assert best.words == words and best.free
         view = hand.drops(piece, partner)
         assert view.verdict.kind == 'unfinished' and view.score.reach_hot == '107.5'
+        assert view.curves_left and view.curves_left.hot_utility == 'hot 107.5 kW'
     view = hand.does('finish')
     assert (view.verdict.kind, view.score.stands_hot, view.score.units) == ('accepted', '107.5', '7; the rule: 7')
     ways = hand.bench.ways(view.version)

@@ -8,7 +8,7 @@ from dataclasses import dataclass, field, replace
 
 from ..analysis.least_units import rule_between_pinches
 from ..errors import DeskError, Refused
-from ..formats.case import Case, completed, read_case
+from ..formats.case import Case, completed, print_case, read_case
 from ..program.answers import HeatFlow
 from ..program.causes import lines_of
 from ..program.run import Pinch
@@ -136,8 +136,8 @@ class Knowing:
         reach = self.pool.submit(reachable, self.pinch, plan)
         stand = self.pool.submit(judged_stand, self.pinch, plan, verdict)
         rule = self.pool.submit(self.rule, snapshot.case, whole.case)
-        left = self.pool.submit(self.rule_of_left, plan)
-        known = Standing(whole, plan, stand.result(), reach.result(), rule.result(), left.result())
+        left = self.pool.submit(self.of_left, plan)
+        known = Standing(whole, plan, stand.result(), reach.result(), rule.result(), *left.result())
         if plan.open or known.stand.accepted is None:
             return known
         return replace(known, areas=areas_of_network(whole.case, snapshot.network_bytes, known.stand.accepted))
@@ -150,15 +150,20 @@ class Knowing:
                 self.rules.popitem(last=False)
         return self.rules[text]
 
-    def rule_of_left(self, plan: HandPlan) -> int:
-        """The rule's number for what is open."""
+    def of_left(self, plan: HandPlan) -> tuple[int, Whole | None]:
+        """The rule's number for what is open, and what `pinch` says of that as a case; None where nothing is placed, or
+        where its temperatures are not those of the whole."""
         if not plan.open:
-            return 0
+            return 0, None
         try:
-            case, _, _ = left_case(plan)
-            return rule_of(self.pinch, completed(case), case) if case.streams else 0
+            case, scale, _ = left_case(plan)
+            if not case.streams:
+                return 0, None
+            rule = rule_of(self.pinch, completed(case), case)
+            seen = plan.placed and scale.degrees == 1
+            return rule, asked_whole(self.pinch, completed(case), print_case(case)) if seen else None
         except DeskError:
-            return len(plan.open)
+            return len(plan.open), None
 
 
 def rule_of(pinch: Pinch, case: Case, text: Case | bytes) -> int:

@@ -19,8 +19,8 @@ KINDS = {PlaceKind.EXCHANGER: 'exchanger', PlaceKind.STREAM: 'stream', PlaceKind
 
 @dataclass(frozen=True)
 class Standing:
-    """All that is known of a plan: the case, how it stands, what it can reach, and how many exchangers the rule wants
-    for the whole and for what is left."""
+    """All that is known of a plan: the case, how it stands, what it can reach, how many exchangers the rule wants for the
+    whole and for what is left, what that is as a case, and areas."""
 
     whole: Whole
     plan: HandPlan
@@ -28,6 +28,7 @@ class Standing:
     reach: Reachable | None
     rule: int
     left: int
+    of_left: Whole | None = None
     areas: Areas = field(default_factory=Areas)
 
 

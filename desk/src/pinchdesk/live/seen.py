@@ -27,7 +27,9 @@ def seen(known: Known) -> View:
         score_of(standing) if standing else score_of_case(known),
         stream_rows(case) if case else (), utility_rows(plan or case) if case else (),
         forbid_rows(case) if case else (),
-        curve_picture(known.whole) if known.whole else None, None, grid_picture(lines) if lines else None,
+        curve_picture(known.whole) if known.whole else None,
+        curve_picture(standing.of_left) if standing and standing.of_left else None,
+        grid_picture(lines) if lines else None,
         exchanger_rows(lines, standing) if lines and standing else (),
         (), False, False, Texts(known.snapshot.case, known.snapshot.network), known.read_only)
 
