@@ -105,7 +105,7 @@ class LivePage:
             time.sleep(0.03)
 
     def all(self, selector: str) -> list[WebElement]:
-        return self.driver.find_elements(By.CSS_SELECTOR, selector)
+        return list(self.driver.find_elements(By.CSS_SELECTOR, selector))
 
     def one(self, selector: str) -> WebElement:
         return self.until(lambda: self.all(selector))[0]

@@ -47,7 +47,9 @@ def page(driver: Chrome, desk: OpenDesk) -> Iterator[LivePage]:
 
 
 def place_rest(page: LivePage) -> None:
-    """The published network of tc3 after its first exchanger: three drags more, and a button."""
+    """The published network of tc3: three drags after the first one, and a button."""
+    if not page.exchangers():
+        page.place(('S1', '120'), ('S3', '137.5'))
     page.place(('S2', '240'), ('S4', '135'))
     page.place(('S2', '105'), ('S3', '125'))
     page.place(('S1', '60'), ('S3', '20'))
@@ -285,6 +287,24 @@ def test_a_desk_that_is_gone_is_told_and_nothing_is_lost(page: LivePage, desk: O
         assert len(page.exchangers()) == 1
     finally:
         again.kill()
+
+
+@pytest.mark.long
+def test_a_search_goes_on_from_here_and_pictures_open_beside(page: LivePage, desk: OpenDesk) -> None:
+    place_rest(page)
+    page.one('#rest summary').click()
+    field = page.one('#rest input[aria-label^=seconds]')
+    field.send_keys(Keys.CONTROL + 'a' + Keys.NULL, '2', Keys.ENTER)
+    page.until(lambda: 'Searching' in page.text('#rest'))
+    page.until(lambda: 'Searching' not in page.text('#rest'))
+    page.says('Accepted')
+    assert audited(desk) == 'accepted'
+    links = [str(link.get_attribute('href')) for link in page.all('#rest a')]
+    assert [link.removeprefix(desk.address) for link in links] == ['report', 'picture/grid.svg', 'picture/curves.svg']
+    for link, words in zip(links, ('Accepted', '<svg', '<svg')):
+        kinds = page.driver.execute_async_script(
+            'fetch(arguments[0]).then(answer => answer.text()).then(arguments[arguments.length - 1])', link)
+        assert words.lower() in str(kinds).lower()
 
 
 @pytest.mark.long

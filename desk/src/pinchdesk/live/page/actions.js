@@ -9,6 +9,7 @@ import { Lost } from './talk.js';
 /** @typedef {import('./state.js').Chosen} Chosen */
 /** @typedef {import('./state.js').Store} Store */
 /** @typedef {import('./talk.js').Talk} Talk */
+/** @typedef {import('./talk.js').Done} Done */
 
 const LATE = 'This was changed meanwhile, in another window or in the file. Look at it, and do it again.';
 const AGO = 250;
@@ -26,6 +27,7 @@ export class Actions {
     /** @type {string | null} */
     this.wanted = null;
     this.sliding = false;
+    this.searching = false;
     this.waiting = 0;
     /** @type {Promise<Offer[]> | null} */
     this.asked = null;
@@ -43,20 +45,45 @@ export class Actions {
    * @returns {Promise<boolean>}
    */
   do(gesture) {
-    const done = this.last.then(() => this.send(gesture));
+    if (!this.searching) return this.after(() => this.talk.gesture(this.state.view.version, gesture));
+    this.store.set({ refusal: { text: 'A search is under way, and ends by itself: nothing was changed.', places: [] } });
+    return Promise.resolve(false);
+  }
+
+  /**
+   * Searches a network from here; nothing else is done meanwhile.
+   * @param {string} seconds
+   * @param {string} above
+   */
+  async search(seconds, above) {
+    this.searching = true;
+    try {
+      return await this.after(() => this.talk.search(this.state.view.version, seconds, above));
+    } finally {
+      this.searching = false;
+    }
+  }
+
+  /**
+   * Asks after all that is under way.
+   * @param {() => Promise<Done>} question
+   * @returns {Promise<boolean>}
+   */
+  after(question) {
+    const done = this.last.then(() => this.send(question));
     this.last = done.catch(() => undefined);
     return done;
   }
 
   /**
-   * @param {Gesture} gesture
+   * @param {() => Promise<Done>} question
    * @returns {Promise<boolean>}
    */
-  async send(gesture) {
+  async send(question) {
     performance.mark('asked');
     this.store.set({ busy: true });
     try {
-      const done = await this.talk.gesture(this.state.view.version, gesture);
+      const done = await question();
       performance.mark('answered');
       const refusal = done.late ? { text: LATE, places: [] } : done.refused ?? null;
       this.show(done.view, { busy: false, refusal, slider: null, instead: null });

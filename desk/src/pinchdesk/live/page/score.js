@@ -31,7 +31,11 @@ export function scorePart(panel, actions) {
       make('button', {
         type: 'button', class: 'wide-button', 'data-key': 'finish', disabled: !open,
         click: () => actions.do({ kind: 'finish' }),
-      }, 'Serve the rest by utilities'));
+      }, 'Serve the rest by utilities'),
+      open && severalOfASide(view) && make('button', {
+        type: 'button', class: 'wide-button', 'data-key': 'finish by parts',
+        click: () => actions.do({ kind: 'finish', by: 'parts' }),
+      }, '… by the cheapest at each temperature'));
   };
 }
 
@@ -80,12 +84,41 @@ export function stepsPart(panel, actions) {
 }
 
 /**
- * What else can be done.
+ * Whether one piece may take several utilities.
+ * @param {View} view
+ */
+function severalOfASide(view) {
+  const sides = view.utilities.map(utility => utility.side);
+  return sides.some((side, at) => sides.indexOf(side) !== at);
+}
+
+/**
+ * What else can be done: a search, what is made for others, the end.
  * @param {HTMLElement} panel
  * @param {Actions} actions
  */
 export function restPart(panel, actions) {
-  fill(panel, make('p', {}, make('a', { href: 'report', target: '_blank', rel: 'noopener' }, 'Page for the reviewer')),
+  const seconds = make('input', { value: '10', size: 3, inputmode: 'decimal', 'aria-label': 'seconds of the search' });
+  const above = make('input', {
+    value: '0', size: 3, inputmode: 'decimal', 'aria-label': 'percent above the least cost, at most',
+  });
+  const button = make('button', {}, 'search'), told = make('p', { role: 'status' });
+  /** @param {string} name @param {string} text */
+  const link = (name, text) => make('li', {}, make('a', { href: name, target: '_blank', rel: 'noopener' }, text));
+  fill(panel,
+    make('details', {}, make('summary', {}, 'Search few exchangers from here'), make('form', {
+      class: 'tools', submit: async (/** @type {Event} */ event) => {
+        event.preventDefault();
+        button.disabled = true;
+        told.textContent = `Searching for ${seconds.value} s …`;
+        await actions.search(seconds.value.trim(), above.value.trim());
+        button.disabled = false;
+        told.textContent = '';
+      },
+    }, make('label', {}, 'for ', seconds, ' s,'),
+    make('label', {}, ' at most ', above, ' % above the least cost '), button), told),
+    make('ul', {}, link('report', 'Page for the reviewer'), link('picture/grid.svg', 'Grid diagram as a picture'),
+      link('picture/curves.svg', 'Curves as a picture')),
     make('button', { type: 'button', click: () => actions.close() }, 'Close the desk'));
 }
 

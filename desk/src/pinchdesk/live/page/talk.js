@@ -61,6 +61,20 @@ export class Talk {
   }
 
   /**
+   * A network of few exchangers from the present one, when the time is over.
+   * @param {number} version
+   * @param {string} seconds
+   * @param {string} above so many percent above the least cost at most
+   * @returns {Promise<Done>}
+   */
+  async search(version, seconds, above) {
+    const { status, content } = await this.ask('search', {
+      version, ...(seconds && { seconds }), ...(above && { above }),
+    });
+    return { ...content, late: status === 409 };
+  }
+
+  /**
    * What an open piece may be matched with; null where the state has changed meanwhile.
    * @param {number} version
    * @param {string} piece
