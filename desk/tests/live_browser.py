@@ -24,7 +24,7 @@ from selenium.webdriver.remote.webelement import WebElement
 from conftest import DESK
 
 CHROMIUM, DRIVER = (shutil.which(name) for name in ('chromium', 'chromedriver'))
-WAIT, COLOURS = 20.0, 48
+WAIT, COLOURS = 20.0, 64
 WORDS = ('--headless=new', '--no-sandbox', '--disable-gpu', '--disable-dev-shm-usage')
 Found = TypeVar('Found')
 # The marks that the page sets: the last one of each name.
@@ -207,7 +207,7 @@ class LivePage:
     def painted(self) -> dict[str, float]:
         """How long the last gesture took from the pointer's release or the key, in ms: until it was asked, answered and
         painted."""
-        self.until(lambda: self.driver.execute_script(LATER))
+        self.until(lambda: bool(self.driver.execute_script(LATER)))
         return dict(self.driver.execute_script(TIMES))
 
     def errors(self) -> list[str]:

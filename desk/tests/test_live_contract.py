@@ -99,7 +99,7 @@ def contrast(one: tuple[int, ...], other: tuple[int, ...]) -> float:
     """How much two colours differ, from 1 to 21, as WCAG has it."""
     def light(colour: tuple[int, ...]) -> float:
         red, green, blue = (part / 3294.6 if part <= 10 else ((part / 255 + 0.055) / 1.055) ** 2.4 for part in colour)
-        return 0.2126 * red + 0.7152 * green + 0.0722 * blue
+        return float(0.2126 * red + 0.7152 * green + 0.0722 * blue)
     dark, bright = sorted((light(one), light(other)))
     return (bright + 0.05) / (dark + 0.05)
 

@@ -364,8 +364,10 @@ def test_a_screen_reader_has_a_name_for_all_that_can_be_done(driver: Chrome, tmp
 @pytest.mark.long
 def test_a_finger_places_an_exchanger(page: LivePage) -> None:
     source, target = (page.middle(page.piece(*named)) for named in (('S1', '120'), ('S3', '137.5')))
-    for kind, points in (('touchStart', [source]), ('touchMove', [(source[0] + 9, source[1] + 9)]),
-                         ('touchMove', [target]), ('touchEnd', [])):
+    touches: list[tuple[str, list[tuple[float, float]]]] = [
+        ('touchStart', [source]), ('touchMove', [(source[0] + 9, source[1] + 9)]), ('touchMove', [target]),
+        ('touchEnd', [])]
+    for kind, points in touches:
         page.driver.execute_cdp_cmd('Input.dispatchTouchEvent', {
             'type': kind, 'touchPoints': [{'x': x, 'y': y} for x, y in points]})
     page.until(lambda: len(page.exchangers()) == 1)
@@ -421,7 +423,7 @@ Promise.allSettled(tries).then(all => {{ document.title = JSON.stringify(all.map
 </script>''', encoding='utf-8')
     driver.get(foreign.as_uri())
     page = LivePage(driver)
-    page.until(lambda: driver.title.startswith('['))
+    page.until(lambda: str(driver.title).startswith('['))
     assert driver.title == '["","","",""]'
     driver.switch_to.frame('frame')
     assert not driver.find_elements(By.CSS_SELECTOR, '#grid')
