@@ -14,10 +14,13 @@ from pinchdesk import Accepted, Cut, Pinch, completed, find_network, read_case, 
 from pinchdesk.formats.case import Basis
 from pinchdesk.formats.shown import Shown
 from pinchdesk.search.accepted import NotAccepted
+from pinchdesk.search.budget import rounded_up
 from pinchdesk.search.find import NoNetwork
+from pinchdesk.search.solver.linear import solve
 from pinchdesk.search.staged import windows
 from pinchdesk.search.staged.merge import joined
 from pinchdesk.search.staged.plan import Match, StagedPlan
+from pinchdesk.search.staged.window_bound import window_bound_program
 from pinchdesk.search.staged.write import written
 
 FEW = {'four-stream': 6, 'tc3': 7, 'two-reactors': 7, 'own-contributions': 7, 'column': 7, 'preheater': 3,
@@ -46,6 +49,32 @@ def test_windows_end_where_no_heat_crosses(pinch: Pinch) -> None:
     heats = {stream.name: stream.heat for stream in case.streams} | {use.name: use.heat for use in flow.uses}
     for name, heat in heats.items():
         assert sum(piece.most for window in made for piece in window.pieces if piece.name == name) == heat
+
+
+# What is known to be enough at the least cost.
+KNOWN = {'four-stream': 5, 'tc3': 7, 'two-reactors': 7, 'own-contributions': 7, 'column': 7, 'preheater': 3,
+         'two-steam-levels': 10, 'three-levels': 11, '10sp1': 10, 'aromatics': 14}
+
+
+@pytest.mark.parametrize('name', few_of(KNOWN, ('four-stream', 'tc3', 'column', 'three-levels')))
+def test_no_bound_is_above_what_is_known(pinch: Pinch, name: str) -> None:
+    case = completed(read_case(example(f'{name}.csv')))
+    flow = pinch.flow(case)
+    assert not isinstance(flow, Cut)
+    parts = windows.windows(case, {use.name: use.heat for use in flow.uses})
+    solved = solve(window_bound_program(parts))
+    assert solved is not None and max(map(len, ([], *(part.hots for part in parts)))) <= rounded_up(solved.bound)
+    assert rounded_up(solved.bound) <= KNOWN[name]
+
+
+def test_what_works_through_a_cut_may_pass_the_target_of_its_stream(pinch: Pinch) -> None:
+    # At four-stream a branch of C1 is warmer than C1 has to be, and is mixed back: so five exchangers do, and no bound
+    # is six.
+    case = completed(read_case(example('four-stream.csv')))
+    flow = pinch.flow(case)
+    assert not isinstance(flow, Cut)
+    solved = solve(window_bound_program(windows.windows(case, {use.name: use.heat for use in flow.uses})))
+    assert solved is not None and rounded_up(solved.bound) == 5
 
 
 @pytest.mark.long

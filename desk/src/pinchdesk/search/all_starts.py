@@ -7,7 +7,7 @@ from collections.abc import Callable
 from contextlib import suppress
 from dataclasses import replace
 from math import inf
-from threading import Lock, Thread
+from threading import Event, Lock, Thread
 
 from ..errors import Refused
 from .accepted import AcceptedNetwork, Judged
@@ -28,10 +28,13 @@ from .wishes import NO_WISHES
 
 # In windows of so many sources the staged model is done in a moment, and does well at all.
 TINY, SMALL = 8, 13
-# What of the time it has in tiny windows; what the bound has without it; what is left for taking out splits.
-STAGED, BOUND, LAST = 0.5, 0.2, 0.05
+# What of the time it has in tiny windows; what a bound has without it; what is left for the last steps; how long the
+# solver waits for a first network.
+STAGED, BOUND, LAST, WAITING = 0.5, 0.2, 0.05, 0.1
 # What one job of a tiny case does, and after how many of them without a gain it is done.
 SHORT_JOBS, IDLE = Pace(steps=100, tries=20), 40
+# A network to begin with that has so many times as many exchangers as there are sources is left aside.
+LONG_START = 6.0
 
 
 class AllStarts:
@@ -43,7 +46,7 @@ class AllStarts:
         self.state = SearchState(task.best, each_stream_has_one(task.case))
         self.largest = max((len(window.pieces) for window in windows(task.case, task.uses)), default=0)
         self.bettered = time.monotonic()
-        self.lock = Lock()
+        self.lock, self.found = Lock(), Event()
 
     def run(self) -> AcceptedNetwork | None:
         """The best that is found; None where there is none."""
@@ -71,6 +74,7 @@ class AllStarts:
             best = self.state.best
             if state.best is not None and (best is None or state.best.rank < best.rank):
                 best, self.bettered = state.best, time.monotonic()
+                self.found.set()
             self.state = SearchState(best, max(state.bound, self.state.bound), state.staged or self.state.staged,
                                      of_uses=max(state.of_uses, self.state.of_uses))
             self.tell(self.state)
@@ -85,7 +89,9 @@ class AllStarts:
         Search(self.judge.pinch, task.case, task.floor, task.most_cost, effort, task.best, self.hear).run(task.uses)
 
     def beside(self) -> None:
-        """What is asked of the solver while windows are ticked off."""
+        """What is asked of the solver while windows are ticked off, once there is a first network, or some time is
+        over."""
+        self.found.wait(self.task.seconds * WAITING)
         if self.largest <= SMALL and self.task.wishes == NO_WISHES:
             self.ask_bound(False)
             self.stage()
@@ -139,6 +145,8 @@ class AllStarts:
         """The structure of the best network so far, where it has one, with what has to stay."""
         best, wishes = self.state.best, self.task.wishes
         if best is None or not wishes.may_cross:
+            return None
+        if best.count > LONG_START * len(self.task.case.sources) and not wishes.kept:
             return None
         with suppress(Refused):
             kept = {exchanger.name: exchanger.duty for exchanger in wishes.kept}

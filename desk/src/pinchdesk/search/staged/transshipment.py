@@ -46,29 +46,34 @@ def heat_in(piece: WindowPiece, band: Band) -> int:
 @dataclass
 class Transshipment:
     """The model as it is built: `used` is whether a pair exchanges heat, `duties` what it exchanges, by the band of
-    the cold side."""
+    the cold side; the duties of a source are kept by its name, in a band and in all."""
 
     window: Window
     model: StagedModel
     bands: list[Band]
     used: dict[Pair, int] = field(default_factory=dict)
     duties: dict[tuple[Pair, Band], int] = field(default_factory=dict)
+    by_band: dict[tuple[str, Band], list[tuple[int, Fraction]]] = field(default_factory=dict)
+    by_name: dict[str, list[tuple[int, Fraction]]] = field(default_factory=dict)
 
     def add_pair(self, hot: WindowPiece, cold: WindowPiece) -> None:
         pair = (hot.name, cold.name)
         limit = Fraction(min(capacity(hot, cold), self.window.total)) / self.model.unit
         self.used[pair] = self.model.variable(ZERO, ONE, True)
+        terms: list[tuple[int, Fraction]] = []
         for band in self.bands:
             if is_in(cold, band) and (band[0] <= hot.high):
                 heat = Fraction(heat_in(cold, band)) / self.model.unit
-                self.duties[pair, band] = self.model.variable(ZERO, min(heat, limit))
-        duties = [(at, ONE) for (duty_pair, _), at in self.duties.items() if duty_pair == pair]
-        self.model.row([*duties, (self.used[pair], -limit)], None, ZERO)
+                at = self.duties[pair, band] = self.model.variable(ZERO, min(heat, limit))
+                terms.append((at, ONE))
+                for name in pair:
+                    self.by_band.setdefault((name, band), []).append((at, ONE))
+                    self.by_name.setdefault(name, []).append((at, ONE))
+        self.model.row([*terms, (self.used[pair], -limit)], None, ZERO)
 
     def taken(self, piece: WindowPiece, band: Band | None = None) -> list[tuple[int, Fraction]]:
         """The duties of a piece, in a band or in all."""
-        return [(at, ONE) for (pair, duty_band), at in self.duties.items()
-                if piece.name in pair and band in (None, duty_band)]
+        return list(self.by_name.get(piece.name, ()) if band is None else self.by_band.get((piece.name, band), ()))
 
     def add_level(self, piece: WindowPiece) -> None:
         unit = self.model.unit

@@ -81,18 +81,23 @@ class WindowBound:
                 self.rows.append(LinearRow(terms, None, Fraction(size)))
 
     def add_duties(self, window: int) -> None:
-        """What a pair exchanges in a window where its exchanger works through a cut of it: no more than its CP does."""
+        """What a pair exchanges in a window where its exchanger works through a cut of it: no more than its CP does. No
+        branch of a hot stream is warmer than where the stream begins, and none of a cold one colder; beyond its target
+        a branch may go, and be mixed back."""
         model, start = self.models[window], self.starts[window]
+        by_pair: dict[Pair, list[tuple[int, Fraction]]] = {}
+        for (pair, _), at in model.duties.items():
+            by_pair.setdefault(pair, []).append((start + at, ONE))
         for pair in model.used:
             cuts = [cut for cut in (ThroughCut(window - 1, pair), ThroughCut(window, pair)) if cut in self.through]
             if not cuts:
                 continue
             hot, cold = (piece_of_name(self.parts[window], name) for name in pair)
-            span = Fraction(min(hot.high, cold.high) - max(hot.low, cold.low)) / model.model.unit
+            span = Fraction(hot.high - cold.low) / model.model.unit
             most = Fraction(min(hot.most, cold.most)) / model.model.unit
-            duties = [(start + at, ONE) for (other, _), at in model.duties.items() if other == pair]
-            terms = (*duties, *((self.sizes[cut], -span) for cut in cuts), *((self.through[cut], most) for cut in cuts))
-            self.rows.append(LinearRow(terms, None, most * len(cuts)))
+            sizes = ((self.sizes[cut], -span) for cut in cuts)
+            through = ((self.through[cut], most) for cut in cuts)
+            self.rows.append(LinearRow((*by_pair[pair], *sizes, *through), None, most * len(cuts)))
 
 
 def piece_of_name(window: Window, name: str) -> WindowPiece:

@@ -17,7 +17,9 @@ from ..solver.quiet_output import silent
 
 Floats = NDArray[numpy.float64]
 # A duty that is smaller is none, in thousandths of the greatest heat; the part of the scale that a cost may be above.
-NONE, HAIR = 1e-5, 1e-6
+NONE, HAIR = 1e-7, 1e-9
+# How far the solver may miss a row: what it may pay beyond the cost is used for dropping what is needed.
+FEASIBLE = 1e-9
 
 
 @dataclass(frozen=True)
@@ -153,5 +155,5 @@ def least_point(rows: FloatRows, weights: Sequence[float] | Floats) -> Floats | 
     """A vertex at which the weighted sum of the duties is least; None where there is none."""
     with silent():
         found = linprog(weights, A_ub=rows.below, b_ub=rows.limits, A_eq=rows.equal, b_eq=rows.equals,
-                        bounds=(0, None), method='highs-ds')
+                        bounds=(0, None), method='highs-ds', options={'primal_feasibility_tolerance': FEASIBLE})
     return numpy.asarray(found.x) if found.status == 0 else None

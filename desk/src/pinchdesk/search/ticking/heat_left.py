@@ -14,9 +14,9 @@ from .window_courses import BESIDE, BOTTOM, CORNER_BOTTOM, CORNER_TOP, CUT, TOP,
 
 # Two temperatures that are nearer are one, in tenths of °C; the range of a level; a heat that is none, as a part of
 # all.
-NEAR, LEVEL_RANGE, FINE = 1e-6, 1e-2, 1e-9
+NEAR, LEVEL_RANGE, FINE = 1e-7, 1e-2, 1e-12
 # Of what is none so much counts where a duty is fitted to the cascade.
-STRICT = 1e-3
+STRICT = 1e-2
 # So much of all heat may be left over at the end.
 LEFT_OVER = 1e-6
 # The cascade is 0 where it is less than so many times what is none.

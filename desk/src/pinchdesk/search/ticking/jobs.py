@@ -17,7 +17,7 @@ from .dropping import dropped
 from .growing import Growing, grown
 from .ruin import run_chain
 from .short_fractions import with_room
-from .thinning import MOST, Aim, Mixing, Thinned, combined, thinned
+from .thinning import MOST, Aim, Mixing, Thinned, combined, evened, thinned
 
 
 # A duty with a smaller denominator is short enough for a text whose fractions `pinch audit` follows.
@@ -145,16 +145,17 @@ def whole_end(case: Case, thins: Sequence[Thinned], most_cost: Fraction, aim: Ai
     for thin in found:
         if aim.rank(thin.structure) >= aim.least:
             break
-        exact = tuple(exact_kinds(case, thin.structure, most_cost))
+        exact = tuple(exact_kinds(case, thin, most_cost))
         if exact:
             return WholeEnd(found, exact)
     return WholeEnd(found, ())
 
 
-def exact_kinds(case: Case, structure: Structure, most_cost: Fraction) -> Iterator[Costed]:
+def exact_kinds(case: Case, thin: Thinned, most_cost: Fraction) -> Iterator[Costed]:
     """A structure in fractions, in ways that are likely to have short ones, until one has: at a vertex, with room for
-    the duties, and both with isothermal mixing."""
-    for kind in kinds(structure):
+    the duties, and both with isothermal mixing, first of all where it is so in floats."""
+    even = evened(thin)
+    for kind in (*([] if even == thin.structure else [even]), *kinds(thin.structure)):
         for way in (cheapest_at, with_room):
             costed = way(case, kind, most_cost)
             if costed is not None:

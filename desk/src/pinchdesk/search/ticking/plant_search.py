@@ -23,13 +23,15 @@ LAG = 8
 CHAINS_TO_ONE = 3
 # With how many times the sources a descent takes so much longer, as an exponent; the fewest descents of a job.
 SLOWER, FEWEST_STEPS = 1.5, 5
+# The sources up to which a job of the whole case does as much as it may, and the fewest combinations of one; of more
+# exchangers than this it is not asked which can go together, since that takes long and gives little.
+FULL_SOURCES, FEWEST_TRIES, MOST_DROPPED = 40, 4, 60
 # From this turn of the cycle on jobs are as long as they become; in each one before half as long as in the next.
 FULL_TURN = 3
 # Networks of a window that are kept; structures that wait to be made less.
 KEPT, CANDIDATES = 150, 20
-# In a window of more sources than this the search begins with a few descents in each; a network to begin with that has
-# so many times as many exchangers as there are sources is left aside.
-LARGE, LONG_START = 20, 6.0
+# In a window of more sources than this the search begins with a few descents in each.
+LARGE = 20
 # Networks of the whole that are changed at a few places: so many of the latest best ones.
 GROUNDS = 6
 # A seed is a number below this.
@@ -53,6 +55,12 @@ class Pace:
         """The descents of a job in a window; fewer at first, so that there is soon something to combine."""
         share = float(2.0 ** min(0, turn - FULL_TURN) * (10 / max(10, len(window.pieces))) ** SLOWER)
         return max(FEWEST_STEPS, round(self.steps * share))
+
+    def of_whole(self, number: int, sources: int, turn: int) -> int:
+        """So many combinations or changes as a job of the whole does, of which one takes longer where there are many
+        sources; fewer at first too."""
+        share = float(2.0 ** min(0, turn - FULL_TURN) * (FULL_SOURCES / max(FULL_SOURCES, sources)) ** SLOWER)
+        return max(FEWEST_TRIES, round(number * share))
 
 
 @dataclass
@@ -113,8 +121,6 @@ class PlantSearch:
         self.pays = most_cost > sum(utility.price * uses[utility.name] for utility in judge.case.utilities)
         self.parts = windows(judge.case, uses)
         self.is_large = max(len(part.pieces) for part in self.parts) > LARGE
-        if begin is not None and not judge.wishes.kept and len(begin.pairs) > LONG_START * len(judge.case.sources):
-            self.begin = None
         self.growing = Growing(judge.case, pairs_of(judge.case), most_cost, judge.wishes.most_splits)
         self.pools = [WindowPool(part, [Chain()] * count) for part, count in zip(self.parts, chains_of(self.parts))]
         # Structures whose exchangers may go together, the latest last, and those that were looked at.
@@ -127,7 +133,7 @@ class PlantSearch:
         # How many jobs were taken, and when the last of them found something better.
         self.taken, self.bettered = 0, 0
         # What stays may stand in several windows, so that these are not searched by themselves then.
-        self.cycle: Sequence[tuple[int, int] | None] = [None] if judge.wishes.kept else cycle_of(self.pools)
+        self.cycle: list[tuple[int, int] | None] = [None] if judge.wishes.kept else cycle_of(self.pools)
 
     def job(self, number: int) -> Job:
         """The job of this number."""
@@ -142,19 +148,20 @@ class PlantSearch:
         exchangers go together, and that are combined, in turn."""
         case, cost, seed, aim = self.judge.case, self.most_cost, self.seed_of(number), self.aim
         order, keeps = self.order_of(number), bool(self.judge.wishes.kept)
+        sources, turn = sum(len(part.pieces) for part in self.parts), number // len(self.cycle)
         if self.begin is not None and (order == 0 or keeps and not self.grounds):
             return ThinJob(case, self.begin, cost, seed, self.pace.thinnings, aim)
         if self.candidates and order % 3 == 2:
             return DropJob(case, self.candidates.pop(), cost, self.pace.nodes, self.pace.seconds, aim)
         if self.grounds and (order % 3 == 1 or keeps):
             ground = self.grounds[order // 3 % len(self.grounds)]
-            return GrowJob(self.growing, ground, seed, self.pace.growths, aim)
+            return GrowJob(self.growing, ground, seed, self.pace.of_whole(self.pace.growths, sources, turn), aim)
         empty = [at for at, pool in enumerate(self.pools) if not pool.networks]
         if empty:
             return self.chain_job(number, empty[0], 0)
         pools = [tuple(pool.networks.values()) for pool in self.pools]
         mixing = Mixing(case, pools, cost, self.pays, self.favourite if order % 2 else ())
-        return CombineJob(mixing, seed, self.pace.tries, aim)
+        return CombineJob(mixing, seed, self.pace.of_whole(self.pace.tries, sources, turn), aim)
 
     def order_of(self, number: int) -> int:
         """Which of the jobs of the whole case a job is, from 0."""
@@ -202,7 +209,7 @@ class PlantSearch:
         if rank <= best:
             self.known.add(shape)
             self.grounds = [*(self.grounds[1 - GROUNDS:] if rank == best else ()), thin.structure]
-        if thin.count <= self.aim.exchangers + 1:
+        if thin.count <= min(self.aim.exchangers + 1, MOST_DROPPED):
             self.known.add(shape)
             self.candidates = [*self.candidates[-CANDIDATES:], thin.structure]
 

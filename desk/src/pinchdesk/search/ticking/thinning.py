@@ -5,7 +5,7 @@ windows alone. Small duties have large weights, so that they go (Candès, Wakin 
 flow to the others, and the next program has more room."""
 from __future__ import annotations
 
-from collections.abc import Sequence
+from collections.abc import Mapping, Sequence
 from dataclasses import dataclass, replace
 from fractions import Fraction
 from random import Random
@@ -14,7 +14,7 @@ import numpy
 
 from ...formats.case import Case
 from ..reduce.moves import with_ends
-from ..reduce.structure import Structure, reduced, splits
+from ..reduce.structure import Course, Parting, Structure, Through, is_flat, reduced, splits, throughs
 from .window_courses import WindowNetwork
 from .float_duties import NONE, FloatDuties, Floats, least_point
 from .joining import joined_windows
@@ -26,6 +26,8 @@ HALF, ROUNDS = 2.0, 6
 NEAR_BEST, MOST, WORSE, MANY = 2, 6, 0.1, 10 ** 6
 # How often weights of a long structure are made anew before it is compared.
 LONG = 1
+# Lanes end at one temperature where they miss it by no more than this part of what the parting exchanges.
+EVEN = 1e-5
 
 
 # How many splits are too many, a number of exchangers, and one of splits.
@@ -94,6 +96,27 @@ def thinned(case: Case, structure: Structure, most_cost: Fraction, random: Rando
         idle = 0 if less.count < best.count else idle + 1
         best = less
     return best
+
+
+def evened(thin: Thinned) -> Structure:
+    """A structure whose partings are level where their lanes have one exchanger each and end at one temperature: their
+    shares then follow from the duties, and need not be what floats made of them."""
+    duties = dict(zip(thin.structure.pairs, thin.duties))
+
+    def made(course: Course) -> Course:
+        return tuple(step if isinstance(step, Through) else replace(
+            step, lanes=tuple(replace(lane, course=made(lane.course)) for lane in step.lanes),
+            level=step.level or is_even(step, duties)) for step in course)
+    return replace(thin.structure, courses={name: made(course) for name, course in thin.structure.courses.items()})
+
+
+def is_even(parting: Parting, duties: Mapping[str, float]) -> bool:
+    """Whether the lanes have one exchanger each, and end at one temperature."""
+    if not is_flat(parting.lanes):
+        return False
+    whole = sum(duties[name] for name in throughs((parting,)))
+    parts = [(duties[name], whole * float(lane.share)) for lane in parting.lanes for name in throughs(lane.course)]
+    return all(abs(duty - even) <= EVEN * whole for duty, even in parts)
 
 
 Pool = Sequence[WindowNetwork]

@@ -1,7 +1,7 @@
 """From the exchangers of a descent to the courses of a window's streams, with shares in fractions."""
 from __future__ import annotations
 
-from collections.abc import Mapping, Sequence
+from collections.abc import Iterator, Mapping, Sequence
 from dataclasses import dataclass, field, replace
 from fractions import Fraction
 from typing import NamedTuple
@@ -19,6 +19,8 @@ STRETCH = -1
 CUT = -1
 # A heat that is nearer than this to a whole number of W is that number; else it has a small denominator.
 WATT, FINEST = 1e-3, 10 ** 6
+# Shares of shares become fine: a finer one than this is none that can be written.
+FINEST_SHARE = 2 ** 24
 
 
 class Tick(NamedTuple):
@@ -211,12 +213,25 @@ def course_of_steps(steps: Sequence[str | Opening | Fork]) -> Course:
     return tuple(course)
 
 
+def shares_of_course(course: Course) -> Iterator[Fraction]:
+    """The shares that are fixed, of lanes in lanes too."""
+    for step in course:
+        if isinstance(step, Parting):
+            for lane in step.lanes:
+                if not step.level:
+                    yield lane.share
+                yield from shares_of_course(lane.course)
+
+
 def window_network(window: Window, ticks: Sequence[Tick]) -> WindowNetwork | None:
-    """The courses of a descent; None where its floats said what is not so."""
+    """The courses of a descent; None where its floats said what is not so, or where its shares are so fine that no text
+    of them is followed by `pinch audit`."""
     writer = CourseWriter(window)
     try:
         for tick in ticks:
             writer.take(tick)
     except Untrue:
         return None
-    return writer.network(Chain(tuple(ticks)).count)
+    network = writer.network(Chain(tuple(ticks)).count)
+    shares = (share for course in network.courses.values() for share in shares_of_course(course))
+    return network if all(share.denominator <= FINEST_SHARE for share in shares) else None
