@@ -12,6 +12,7 @@ from pinchdesk import ProgramError
 from pinchdesk.search import child
 from pinchdesk.search.solver import linear, process
 from pinchdesk.search.solver.elimination import Elimination, Inconsistent
+from pinchdesk.search.solver.interior_point import roomy
 from pinchdesk.search.solver.linear import LinearRow, Program, Terms
 
 ONE = Fraction(1)
@@ -96,3 +97,16 @@ def test_what_is_given_back_is_a_point(data: some.DataObject) -> None:
     point = linear.exact(program, solved.values)
     assert point is not None and linear.allows(program, point)
     assert float(LinearRow(aim, None, None).at(point)) == pytest.approx(solved.aim, abs=1e-6)
+
+
+def test_what_is_nearly_tight_does_not_take_the_place_of_what_is() -> None:
+    near = LinearRow(terms(1, 1 + Fraction(1, 10 ** 8)), 2 - Fraction(1, 10 ** 7), None)
+    rows = (near, LinearRow(terms(1, 1), Fraction(2), None), LinearRow(terms(1, -1), Fraction(0), None))
+    assert linear.exact(Program((None,) * 2, (None,) * 2, frozenset(), rows, terms(1)), ()) == (1, 1)
+
+
+def test_where_rows_want_less_room_more_of_them_have_some() -> None:
+    # Between 0 and 1/3 lie multiples of 1/30 whatever the others want.
+    rows = (LinearRow(terms(3), Fraction(0), ONE), LinearRow(terms(1, 1), ONE, None))
+    point = roomy(Program((None,) * 2, (None,) * 2, frozenset(), rows, ()), (), {0: Fraction(1, 30), 1: ONE})
+    assert point is not None and 0 < point[0] < Fraction(1, 3) and point[0].denominator <= 30

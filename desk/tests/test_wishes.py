@@ -1,6 +1,7 @@
 """What a network is wished to be beside few exchangers: few splits, none through a cut, exchangers that stay."""
 from __future__ import annotations
 
+import time
 from dataclasses import replace
 from fractions import Fraction
 from pathlib import Path
@@ -11,10 +12,11 @@ from conftest import EXAMPLES, example, few_of, pinchdesk
 from pinchdesk import Accepted, Cut, Pinch, completed, find_network, read_case, read_network
 from pinchdesk.errors import WordsError
 from pinchdesk.formats.case import Case, Side
-from pinchdesk.search.accepted import Judge, accepted_network, uneven_mixes
+from pinchdesk.program.answers import Design
+from pinchdesk.search.accepted import AcceptedNetwork, Judge, accepted_network, uneven_mixes
 from pinchdesk.search.budget import SearchWay
 from pinchdesk.search.find import FewExchangers, NoNetwork, tight_of
-from pinchdesk.search.finishing import evened
+from pinchdesk.search.finishing import evened, finished
 from pinchdesk.search.staged.windows import cuts_between, windows
 from pinchdesk.search.wishes import Wishes, crossing, cut_case, splits_of
 
@@ -71,8 +73,12 @@ def test_an_exchanger_through_a_cut_is_seen(pinch: Pinch) -> None:
     assert tight_of(case, network) == ('E1',)
 
 
-def test_few_splits_or_none(pinch: Pinch) -> None:
+def test_few_splits(pinch: Pinch) -> None:
     assert splits_of(wished(pinch, 'tc3', Wishes(most_splits=1)).network) <= 1
+
+
+@pytest.mark.long
+def test_no_splits_at_a_cost(pinch: Pinch) -> None:
     assert splits_of(wished(pinch, 'tc3', Wishes(most_splits=0), above=100).network) == 0
 
 
@@ -84,6 +90,7 @@ def test_what_cannot_be_met_is_refused_in_words(pinch: Pinch) -> None:
     assert find_network(case, pinch=pinch, way=STEPS, wishes=Wishes(most_splits=1)).exchangers == 2
 
 
+@pytest.mark.long
 def test_what_stays_has_its_streams_and_its_duty(pinch: Pinch) -> None:
     start = example('tc3-network.txt')
     kept = [exchanger for exchanger in read_network(start).exchangers if exchanger.name in ('E1', 'E3')]
@@ -126,6 +133,28 @@ def test_a_mix_of_two_temperatures_is_made_one_of_one_where_that_costs_nothing(p
     judged = judge.given(network)
     assert judged.uneven == 1
     assert evened(judge, judged, judged.cost, float('inf'), lambda found: None).uneven == 0
+
+
+def test_the_last_steps_take_out_what_costs_nothing(pinch: Pinch) -> None:
+    case = completed(read_case(example('four-stream.csv')))
+    judge, design = Judge(pinch, case), pinch.design(case)
+    told: list[AcceptedNetwork] = []
+    assert isinstance(design, Design)
+    judged = judge.given(design.text)
+    least = finished(judge, judged, judged.cost, time.monotonic() + 30, told.append, False)
+    assert least.count <= 7 < judged.count and least.cost == judged.cost and told
+
+
+@pytest.mark.long
+def test_a_little_more_cost_saves_an_exchanger(pinch: Pinch) -> None:
+    assert wished(pinch, 'tc3', Wishes(), above=4).exchangers == 6
+
+
+@pytest.mark.long
+def test_a_large_case_is_the_same_by_one_worker_or_by_three(pinch: Pinch) -> None:
+    case = example('bn15.csv')
+    first, again = (find_network(case, pinch=pinch, way=SearchWay(steps=40, workers=count)) for count in (1, 3))
+    assert first.text == again.text
 
 
 def test_the_words(tmp_path: Path) -> None:
