@@ -19,8 +19,8 @@ KINDS = {PlaceKind.EXCHANGER: 'exchanger', PlaceKind.STREAM: 'stream', PlaceKind
 
 @dataclass(frozen=True)
 class Standing:
-    """All that is known of a plan: the case, how it stands, what it can reach, how many exchangers the rule wants for the
-    whole and for what is left, what that is as a case, and areas."""
+    """All that is known of a plan: the case, how it stands, what it can reach, how many exchangers the rule needs for
+    the whole and for what is left, what that is as a case, and areas."""
 
     whole: Whole
     plan: HandPlan
