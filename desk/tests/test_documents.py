@@ -19,7 +19,7 @@ PICTURES = ROOT / 'docs' / 'pictures'
 CODE = re.compile(r'```.*?```', re.S)
 LINK = re.compile(r'\]\(([^)\s]+)\)')
 HEADING = re.compile(r'^#+ (.*)$', re.M)
-MOST_BYTES = 300_000
+MOST_BYTES = 400_000
 
 
 def text_of(document: Path) -> str:

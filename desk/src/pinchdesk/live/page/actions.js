@@ -46,7 +46,8 @@ export class Actions {
    */
   do(gesture) {
     if (!this.searching) return this.after(() => this.talk.gesture(this.state.view.version, gesture));
-    this.store.set({ refusal: { text: 'A search is under way, and ends by itself: nothing was changed.', places: [] } });
+    const text = 'A search is under way, and ends by itself: nothing was changed.';
+    this.store.set({ refusal: { text, places: [] } });
     return Promise.resolve(false);
   }
 
