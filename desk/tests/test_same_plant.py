@@ -120,7 +120,7 @@ def parts_of_picture(files: Files, words: str) -> Parts:
         pair = re.fullmatch(r'(-?[\d.]+): (-?[\d.]+)', text)
         if pair:
             told += [Told('label', Fraction(pair[1]), 'price'), Told('label', Fraction(pair[2]), 'cost')]
-        elif words.split()[0] not in ('prices', 'sweep') or not re.fullmatch(r'[−-]?[\d.]+', text):
+        elif words.split()[0] not in ('prices', 'sweep') or not re.fullmatch(r'[−-]?[\d.\u202f]+', text):
             told += texts_of(text, files.style)
     return told
 
