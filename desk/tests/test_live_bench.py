@@ -20,6 +20,7 @@ from live_desk import Hand, bench_of, opened
 from segmented_cases import FEED, FEED_NETWORK
 
 from pinchdesk import Pinch
+from pinchdesk.formats.written_files import write_whole
 from pinchdesk.live import own_files
 from pinchdesk.live.asked import ON_PLAN, ON_TEXTS
 from pinchdesk.live.own_files import ChangedOutside, OpenedTwice, OwnFile, claimed
@@ -159,10 +160,10 @@ def test_of_two_texts_that_are_written_both_or_none_are(tmp_path: Path, monkeypa
 
 def test_what_the_desk_writes_itself_is_no_change_outside(tmp_path: Path, monkeypatch: pytest.MonkeyPatch) -> None:
     bench = bench_of(tmp_path, 'tc3', 'tc3-network.txt')
-    written, looks = own_files.write_whole, []
+    looks: list[threading.Thread] = []
 
     def slow(path: str, content: bytes, lasting: bool) -> None:
-        written(path, content, lasting=lasting)
+        write_whole(path, content, lasting=lasting)
         looks.append(threading.Thread(target=bench.look))
         looks[-1].start()
         time.sleep(0.1)
