@@ -262,6 +262,17 @@ def test_the_rest_takes_one_utility_a_piece_or_the_cheapest_at_each_temperature(
     assert Fraction(parts.score.cost.split()[0]) < Fraction(one.score.cost.split()[0])
 
 
+def test_where_utilities_have_prices_an_offer_says_what_it_costs_in_money(tmp_path: Path) -> None:
+    hand = Hand(bench_of(tmp_path, 'two-steam-levels'))
+    offers = hand.offers(hand.piece('H2', 'above'))
+    whole = next(offer for offer in offers if offer.words == '240 kW, finishes H2 and C3')
+    # It costs no heat, but high-pressure steam in place of low-pressure steam.
+    assert (whole.cost, whole.free) == ('2000 price × W more', False)
+    steam = [offer for offer in hand.offers(hand.piece('C1', 'below')) if offer.kind == 'utility']
+    assert [(offer.partner, offer.cost) for offer in steam] == [
+        ('LP', 'costs 120 kW, 120000 price × W more'), ('HP', 'costs 120 kW, 360000 price × W more')]
+
+
 def test_segments_of_a_stream_are_in_one_row_of_the_grid(tmp_path: Path) -> None:
     (tmp_path / 'case.csv').write_text(FEED, encoding='utf-8')
     (tmp_path / 'network.txt').write_text(FEED_NETWORK, encoding='utf-8')

@@ -11,7 +11,8 @@ from ..analysis.open_branches import Left, Rounding, Scale, is_exact, rest_case,
 from ..errors import Refused
 from ..formats.case import ANY_HEAT, Case, Side, Utility
 from ..formats.network import Exchanger, Network
-from ..program.answers import Curves, Targets
+from ..formats.shown import Shown
+from ..program.answers import Curves, Cut, Targets
 from ..program.run import Pinch
 from ..program.verdicts import Accepted, Verdict
 from ..tables.names import apart
@@ -22,10 +23,14 @@ from .pieces import HandPlan, pair_with
 @dataclass(frozen=True)
 class Reachable:
     """The hot utility that a network can still reach: what is placed and the target of what is open. Where a case
-    cannot hold a number of the rest it lies between two bounds; `least` is then no more than it is."""
+    cannot hold a number of the rest it lies between two bounds; `least` is then no more than it is. Where a side has
+    more than one utility `cost` is the least cost, in price times W, of the whole then; `is_servable` is false where no
+    heat flow is left."""
 
     least: Fraction
     most: Fraction
+    cost: Fraction | None = None
+    is_servable: bool = True
 
     @property
     def exact(self) -> bool:
@@ -72,15 +77,31 @@ def reachable(pinch: Pinch, plan: HandPlan) -> Reachable | None:
     """What a plan can still reach; None where what is left is more than a case can hold."""
     used = plan.used(True)
     hot = sum((used[utility.name] for utility in plan.case.utilities if utility.side is Side.HOT), Fraction(0))
+    paid = sum((utility.price * used[utility.name] for utility in plan.case.utilities), Fraction(0))
     if not plan.open:
-        return Reachable(hot, hot)
+        return Reachable(hot, hot, paid if has_levels(plan.case) else None)
     try:
         case, scale, exact = left_case(plan)
         most = hot + hot_target(pinch, case, scale)
         least = most if exact else hot + hot_target(pinch, left_case(plan, Rounding.EASIER)[0], scale)
+        if not exact or not has_levels(plan.case) or not case.streams:
+            return Reachable(least, most)
+        flow = pinch.uses(case)
     except Refused:
         return None
-    return Reachable(least, most)
+    if isinstance(flow, Cut):
+        return Reachable(least, most, None, False)
+    return Reachable(least, most, paid + Fraction(flow.cost, scale.factor))
+
+
+def has_levels(case: Case) -> bool:
+    """Whether a side has more than one utility, so that it matters which one is used."""
+    return any(sum(utility.side is side for utility in case.utilities) > 1 for side in Side)
+
+
+def money(shown: Shown, cost: Fraction | int) -> str:
+    """A cost with its unit; of a case whose prices have none it is a price times a heat."""
+    return shown.with_unit(cost) if shown.basis.cost_unit else f'{shown.cost(cost)} price × W'
 
 
 def hot_target(pinch: Pinch, case: Case, scale: Scale) -> Fraction:

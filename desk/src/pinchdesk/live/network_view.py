@@ -10,7 +10,7 @@ from ..formats.shown import Shown
 from ..program.verdicts import Accepted, Place, PlaceKind, Rejected, TooFine, Verdict
 from .areas import Areas
 from .grid_view import Lines, place_of
-from .judgement import Reachable, Stand, Whole, count_placed
+from .judgement import Reachable, Stand, Whole, count_placed, money
 from .pieces import HandPlan
 from .view import ExchangerRow, Judgement, Mark, ScoreView
 
@@ -124,11 +124,6 @@ def score_of(standing: Standing) -> ScoreView:
         bar_of_score(whole, reached, stands_hot), placed, left, rule, units,
         money(shown, accepted.cost) if accepted else '', money(shown, accepted.floor) if accepted else '',
         notes_of(standing, known))
-
-
-def money(shown: Shown, cost: Fraction | int) -> str:
-    """A cost with its unit; of a case whose prices have none it is a price times a heat."""
-    return shown.with_unit(cost) if shown.basis.cost_unit else f'{shown.cost(cost)} price × W'
 
 
 def notes_of(standing: Standing, known: bool) -> tuple[str, ...]:

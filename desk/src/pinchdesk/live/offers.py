@@ -13,7 +13,7 @@ from ..formats.shown import Shown
 from ..formats.whole_streams import whole_name
 from ..program.run import Pinch
 from .gestures import open_piece
-from .judgement import Reachable, reachable
+from .judgement import Reachable, money, reachable
 from .kinks import placed_along
 from .pieces import HandPlan, utilities_for
 from .seats import Seat, Seated, seatings
@@ -75,7 +75,14 @@ def rank(plan: HandPlan, offer: PricedOffer, before: Reachable | None) -> tuple[
     cost = cost_of(offer, before)
     lanes = (offer.chosen.hot_seat, offer.chosen.cold_seat).count(Seat.LANE)
     heat = sum((offer.made.duties[name] for name in offer.made.placed if name not in plan.pairs), Fraction(0))
-    return (offer.partner in plan.utilities, cost is None, cost or Fraction(0), -heat, lanes)
+    return (offer.partner in plan.utilities, cost is None, cost or Fraction(0), paid_more(offer, before), -heat, lanes)
+
+
+def paid_more(offer: PricedOffer, before: Reachable | None) -> Fraction:
+    """By how much the least cost of the whole rises, in price times W, where it matters which utility is used."""
+    if before is None or before.cost is None or offer.after is None or offer.after.cost is None:
+        return Fraction(0)
+    return max(Fraction(0), offer.after.cost - before.cost)
 
 
 def told(plan: HandPlan, piece: str, offer: PricedOffer, before: Reachable | None) -> Offer:
@@ -88,6 +95,11 @@ def told(plan: HandPlan, piece: str, offer: PricedOffer, before: Reachable | Non
     exact = before is not None and before.exact and offer.after is not None and offer.after.exact
     price = 'cost not known' if cost is None else 'costs nothing' if not cost else \
         f'costs {"" if exact else "at most "}{shown.heat(cost)} {shown.heat_unit}'
+    more = paid_more(offer, before)
+    if more:
+        price = f'{money(shown, more)} more' if not cost else f'{price}, {money(shown, more)} more'
+    if offer.after is not None and not offer.after.is_servable:
+        price = 'the rest could not be served then'
     sides = ((chosen.hot, chosen.hot_seat), (chosen.cold, chosen.cold_seat))
     seats = ', '.join(where(plan, name, seat) for name, seat in sides
                       if seat is not Seat.LEVEL and not ends_piece(plan, name, chosen))
@@ -99,7 +111,7 @@ def told(plan: HandPlan, piece: str, offer: PricedOffer, before: Reachable | Non
     return Offer(partner, 'utility' if is_utility else 'piece',
                  partner if is_utility else whole_name(plan.case, plan.piece(partner).stream.name), shown.heat(heat),
                  words,
-                 price + (f' ({seats})' if seats else ''), cost == 0, bool(ended), gesture)
+                 price + (f' ({seats})' if seats else ''), cost == 0 and not more, bool(ended), gesture)
 
 
 def ended_name(plan: HandPlan, made: HandPlan, piece: str) -> str:
