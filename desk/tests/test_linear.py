@@ -102,7 +102,7 @@ def test_what_is_given_back_is_a_point(data: some.DataObject) -> None:
 def test_what_is_nearly_tight_does_not_take_the_place_of_what_is() -> None:
     near = LinearRow(terms(1, 1 + Fraction(1, 10 ** 8)), 2 - Fraction(1, 10 ** 7), None)
     rows = (near, LinearRow(terms(1, 1), Fraction(2), None), LinearRow(terms(1, -1), Fraction(0), None))
-    assert linear.exact(Program((None,) * 2, (None,) * 2, frozenset(), rows, terms(1)), ()) == (1, 1)
+    assert linear.exact(Program((None,) * 2, (None,) * 2, frozenset(), rows, terms(1)), ()) == (ONE, ONE)
 
 
 def test_where_rows_want_less_room_more_of_them_have_some() -> None:
