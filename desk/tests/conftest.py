@@ -17,6 +17,7 @@ from hypothesis import HealthCheck, settings
 from pinchdesk import Pinch
 from pinchdesk.batch.job import Job, JobOutcome
 from pinchdesk.batch.job import done as done_of
+from pinchdesk.cli.lean_units import load_units_alone
 from pinchdesk.cli.main import main
 from pinchdesk.search.tasks import Task
 
@@ -33,6 +34,8 @@ FEW = ('four-stream', 'own-contributions', 'preheater', 'two-reactors', 'two-ste
 settings.register_profile('desk', deadline=None, max_examples=20, derandomize=True, database=None,
                           suppress_health_check=[HealthCheck.too_slow])
 settings.register_profile('all', settings.get_profile('desk'), max_examples=100)
+# As in the command: pint takes seconds otherwise, in each process of the tests.
+load_units_alone()
 
 
 def few_of(names: Iterable[str], few: Collection[str] = FEW) -> list[Any]:
@@ -142,11 +145,11 @@ def done_here(jobs: Iterator[Job], count: int) -> Generator[JobOutcome, None, No
     yield from map(done_of, jobs)
 
 
-@pytest.fixture
-def many_here(monkeypatch: pytest.MonkeyPatch) -> None:
-    """Many cases are done in this process, unless all tests are asked for: a process that is started for them loads all
-    anew."""
-    if of_all(True, False):
+@pytest.fixture(autouse=True)
+def many_here(request: pytest.FixtureRequest, monkeypatch: pytest.MonkeyPatch) -> None:
+    """Many cases are done in this process, unless all tests are asked for, or it is a test of processes: one that is
+    started loads all anew."""
+    if of_all(True, False) and not request.node.get_closest_marker('processes'):
         monkeypatch.setattr('pinchdesk.batch.order.by_processes', done_here)
 
 

@@ -11,7 +11,6 @@ from pinchdesk import Refused
 from pinchdesk.analysis.change_table import CaseScenarios, read_changes
 from pinchdesk.formats.comments import Basis
 
-pytestmark = pytest.mark.usefixtures('many_here')
 HEAD = 'scenario;source;field;value\n'
 
 

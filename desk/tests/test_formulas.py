@@ -23,7 +23,6 @@ from pinchdesk.text import plain, read_again
 BEGINNINGS = ('=', '+', '-', '@', '\t')
 texts = some.text(some.sampled_from("=+-@'\taZ1, ;\"\r\n＝"), max_size=6)
 HEAD = 'scenario;source;field;value\n'
-pytestmark = pytest.mark.usefixtures('many_here')
 
 
 @given(texts)

@@ -34,7 +34,7 @@ Desk = Callable[..., Done]
 
 
 @pytest.fixture
-def desk(capfd: pytest.CaptureFixture[str], many_here: None) -> Desk:
+def desk(capfd: pytest.CaptureFixture[str]) -> Desk:
     """Runs words in this process, by two processes of its own where all tests are asked for."""
     def run(*words: str) -> Done:
         status = main(['many', *words, *(['--processes', '2'] if '--help' not in words else [])])
@@ -322,6 +322,7 @@ def test_a_call_that_is_not_clear_is_an_error() -> None:
 
 # Whatever happens.
 
+@pytest.mark.processes
 def test_a_process_that_dies_loses_no_case(folder: Path, tmp_path: Path, monkeypatch: pytest.MonkeyPatch) -> None:
     program(tmp_path, monkeypatch, f'mkdir {tmp_path}/died 2> /dev/null && kill -9 $PPID')
     results = pinchdesk.many('targets', folder, processes=2)
@@ -330,6 +331,7 @@ def test_a_process_that_dies_loses_no_case(folder: Path, tmp_path: Path, monkeyp
     assert (tmp_path / 'died').is_dir()
 
 
+@pytest.mark.processes
 def test_a_case_at_which_each_process_dies_is_given_up(folder: Path, tmp_path: Path,
                                                        monkeypatch: pytest.MonkeyPatch) -> None:
     program(tmp_path, monkeypatch, f'grep -q "1000;500" case && echo >> {tmp_path}/deaths && kill -9 $PPID')

@@ -20,7 +20,6 @@ from pinchdesk.batch.inputs import Listed
 from pinchdesk.batch.scenarios import SCENARIO
 
 Desk = Callable[..., Done]
-pytestmark = pytest.mark.usefixtures('many_here')
 CHANGES = 'scenario;source;field;value\nhotter;S1;supply;+1 K\n'
 
 

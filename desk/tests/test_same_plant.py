@@ -32,7 +32,7 @@ PICTURES = ['curves {case.csv}', 'composite {case.csv}', 'balanced {case.csv}', 
             'grid {case.csv} {case-network.txt}', 'grid {case.csv} {bad.txt}', 'site {site.csv}',
             'sweep {case.csv} 4 16 4', 'prices {case.csv} {case-study.txt}']
 PAGES = ['{case.csv}', '{case.csv} {case-network.txt} {bad.txt}']
-pytestmark = pytest.mark.usefixtures('searched_here', 'many_here')
+pytestmark = pytest.mark.usefixtures('searched_here')
 
 
 @pytest.fixture(scope='module')

@@ -21,7 +21,6 @@ from pinchdesk.formats.study import PriceScenario, Span, Study, print_study, rea
 from pinchdesk.program.answers import PriceScenarioAnswer, SpanAnswer
 from pinchdesk.tables.study_prices import studied
 
-pytestmark = pytest.mark.usefixtures('many_here')
 PLANT = ('Stream;Kind;Supply (°C);Target (°C);CP (kW/K);Price (EUR/MWh)\n'
          'H1;;150;60;2;\nC1;;20;125;2,5;\nLP;heater;180;;;30,05\n')
 STEAM = example('two-steam-levels.csv')

@@ -32,8 +32,6 @@ from pinchdesk.words.tradeoff_word import NETWORKS, TradeoffOptions, tradeoff
 from pinchdesk.words.whatif_word import WhatIfOptions, whatif
 from pinchdesk.words.word import Files, TextFile, Word, WordGroup
 
-pytestmark = pytest.mark.usefixtures('many_here')
-
 
 def files_of(**names: str) -> Files:
     """Examples by their roles."""

@@ -280,7 +280,6 @@ def desk_text() -> str:
             '        85           90            80\n')
 
 
-@pytest.mark.usefixtures('many_here')
 @pytest.mark.parametrize('word', few_of([*PLACES, 'many'], {*PLACES, 'many'} - {'network'}))
 def test_help_has_an_example_that_runs(word: str, desk: Captured, monkeypatch: pytest.MonkeyPatch,
                                        tmp_path: Path) -> None:
