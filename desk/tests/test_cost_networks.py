@@ -172,5 +172,5 @@ def test_a_utility_with_real_ends_runs_through_an_exchanger_with_a_kink(pinch: P
     passage = next(passage for passage in passages_of(followed) if passage.hot.source.name == 'FURN'
                    and len(passage.parts) > 1)
     duties = list(part_duties(CostData(case), passage))
-    assert (duties[0].hot.inlet, duties[-1].hot.outlet) == (6000, 4300)
+    assert (duties[0].hot.inlet, duties[-1].hot.outlet) == (Fraction(6000), Fraction(4300))
     assert all(before.hot.outlet == behind.hot.inlet for before, behind in zip(duties, duties[1:]))
