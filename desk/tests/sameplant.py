@@ -14,11 +14,13 @@ from html.parser import HTMLParser
 from pathlib import Path
 from typing import Any
 
-from pinchdesk import Case, Network, Pinch, print_case, print_network, read_network
+from pinchdesk import Case, Network, Pinch, completed, follow, print_case, print_network, read_network
 from pinchdesk.batch.arguments import options_of, paths_of
 from pinchdesk.batch.loaded_files import read_files
 from pinchdesk.cli.answering import results_of
 from pinchdesk.cli.parsing import parser
+from pinchdesk.formats.case_units import CaseUnits
+from pinchdesk.formats.comments import Basis
 from pinchdesk.formats.network import Exchanger, Split
 from pinchdesk.formats.shown import decimal
 from pinchdesk.report.sheet import Sheet, rendered
@@ -58,10 +60,15 @@ class Style:
     # What a cost in price times W is in the unit of the costs.
     cost: Fraction = Fraction(1)
     cost_unit: str = 'price times W'
+    # Degrees in a kelvin.
+    degrees: Fraction = Fraction(1)
+    # The case keeps the units of the table.
+    own: bool = False
 
     @property
     def wanted(self) -> Wanted:
-        return Wanted('10', scale=Fraction(self.scale), hours=None if self.hours is None else Fraction(self.hours))
+        return Wanted('10 K', scale=Fraction(self.scale), hours=None if self.hours is None else Fraction(self.hours),
+                      own_units=self.own)
 
     @property
     def price_called(self) -> str:
@@ -80,6 +87,9 @@ STYLES = {
                                    cost=Fraction('0.0025') * 8, cost_unit='per a'),
     'no unit, prices with decimals': Style(price=Fraction('0.25'), price_unit='as in the table', cost=Fraction('0.25'),
                                            scale=10),
+    'its own units, °F and MJ/h': Style(
+        Fraction(32), '°F', Fraction(2), 'MJ/(h °F)', Fraction(18, 5), 'MJ/h', Fraction('0.7'), 'EUR/MWh',
+        cost=Fraction('0.7') / 10 ** 6, cost_unit='EUR/h', degrees=Fraction(9, 5), own=True),
 }
 
 
@@ -97,7 +107,7 @@ def table_of(style: Style) -> str:
             'contribution (K)']
     for line in SOURCES.splitlines():
         kind, name, *held = line.split()
-        ways = [(Fraction(1), style.offset)] * 2 + [(style.flow, Fraction(0))] + [(style.heat, Fraction(0))] * 3 + [
+        ways = [(style.degrees, style.offset)] * 2 + [(style.flow, Fraction(0))] + [(style.heat, Fraction(0))] * 3 + [
             (style.price, Fraction(0))]
         cells = ['' if text == '-' else number(Fraction(text) * times + more)
                  for text, (times, more) in zip(held, ways)]
@@ -109,16 +119,19 @@ def case_of(style: Style) -> Case:
     return case_of_table(table_of(style).encode(), 'plant.csv', style.wanted).case
 
 
-def scaled(network: Network, scale: Fraction) -> Network:
-    """A network of the plant for a case that takes its heats so many times."""
-    held = []
-    for each in network.statements:
-        if isinstance(each, Exchanger):
-            each = replace(each, duty=each.duty * scale)
-        elif isinstance(each, Split):
-            each = replace(each, size=each.size * scale)
-        held.append(each)
-    return Network(tuple(held))
+def scaled(network: Network, basis: Basis) -> Network:
+    """A network of the plant for a case that has its heats and CPs as this basis says."""
+    units, branches = basis.units or CaseUnits(), follow(completed(case_of(PLAIN)), network).branches
+    statements = []
+    for statement in network.statements:
+        if isinstance(statement, Exchanger):
+            statement = replace(statement, duty=units.of_watts(statement.duty) * basis.scale)
+        elif isinstance(statement, Split):
+            latent = branches[statement.branch].stream.latent
+            size = units.of_watts(statement.size) if latent else units.of_flow(statement.size)
+            statement = replace(statement, size=size * basis.scale)
+        statements.append(statement)
+    return Network(tuple(statements))
 
 
 SITE = '''{scale}contribution,,50,,,,
@@ -152,15 +165,18 @@ class Files:
         return str(self.folder / name)
 
     def words(self, text: str) -> list[str]:
-        """Words with `{name}` for a file of the plant."""
-        return [self.path(each[1:-1]) if each.startswith('{') else each for each in text.split()]
+        """Words with `{name}` for a file of the plant; differences have their unit where the case has its own."""
+        differences, flag, more = text.partition(' --')
+        if self.style.own:
+            differences = re.sub(r'(?<= )(\d+)(?= |$)', r'\1K', differences)
+        return [self.path(word[1:-1]) if word.startswith('{') else word for word in (differences + flag + more).split()]
 
     def answer(self, text: str) -> Said:
         """What words say: their tables, and what would be written."""
         said: list[Said] = []
 
         def ask(word: Word[Any], _: tuple[str, ...], parsed: Namespace) -> int:
-            answer = word.run(read_files(paths_of(word.roles, parsed)), options_of(word, parsed), nobody)
+            answer = word.answer(read_files(paths_of(word.roles, parsed)), options_of(word, parsed), nobody)
             form = word.forms.of(parsed.output, getattr(parsed, 'form', None))
             said.append(Said(answer.sheets, answer.content(form)))
             return answer.status
@@ -184,7 +200,7 @@ def files_of(style: Style, folder: Path, pinch: Pinch) -> Files:
                         for at, each in enumerate(made.statements)))
     begun = read_network('exchanger X H1 C1 1000000\npass H1 X h1a\npass C1 X c1a\nsplit H2 h2a 600 h2b\n')
     texts = {'plant.csv': table_of(style), 'case.csv': print_case(case)}
-    texts |= {f'{name}.txt': print_network(scaled(each, scale))
+    texts |= {f'{name}.txt': print_network(scaled(each, case.basis))
               for name, each in (('case-network', made), ('bad', bad), ('begun', begun))}
     texts['case-study.txt'] = study_of(style)
     texts['changes.csv'] = changes_of(style)
@@ -207,14 +223,18 @@ def study_of(style: Style) -> str:
 def changes_of(style: Style) -> str:
     """The same changes in the units of the table."""
     flow, heat = number(5 * style.flow), number(200 * style.heat)
+    target = number(130 * style.degrees + style.offset)
     return ('scenario;source;field;value\n'
             f'a;H1;supply;+10 K\nb;H2;CP;{flow} {style.flow_unit}\nc;V1;load;+{heat} {style.heat_unit}\n'
-            f'd;HP;price;+{number(4 * style.price)}\ne;C1;target;{number(130 + style.offset)} {style.temperature}\n'
+            f'd;HP;price;+{number(4 * style.price)}\ne;C1;target;{target} {style.temperature}\n'
             f'f;LP;most;{heat} {style.heat_unit}\ng;case;contribution;6 K\nh;H1;CP;-10 %\n')
 
 
 # What stands beside a number, the longest first.
-FIXED = ('kW/K', 'kW', '°C', 'K', '%')
+FIXED = ('MJ/(h °F)', 'MJ/h', '°F', 'kW/K', 'kW', '°C', 'K', '%')
+# What a case in units of its own has in place of those of the plain plant, and how many of it one of these is.
+OWN_UNITS = {'°C': ('°F', Fraction(9, 5)), 'K': ('°F', Fraction(9, 5)), 'kW': ('MJ/h', Fraction(18, 5)),
+             'kW/K': ('MJ/(h °F)', Fraction(2))}
 
 
 @dataclass(frozen=True)

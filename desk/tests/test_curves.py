@@ -68,9 +68,9 @@ def test_curves_show_targets_and_pinches_on_both_scales(name: str, pinch: Pinch)
     assert_readable(figure)
     shown, texts = Shown(case.basis), ' '.join(svg_texts(figure))
     for each in (targets.hot, targets.cold):
-        assert f'{shown.kilowatts(each)} kW' in texts
+        assert f'{shown.heat(each)} kW' in texts
     for each in targets.pinches:
-        assert f'pinch {shown.celsius(each)} °C' in texts
+        assert f'pinch {shown.temperature(each)} °C' in texts
         hot, cold = (temperatures_at(case, side, each).told(shown) for side in (Side.HOT, Side.COLD))
         assert f'hot {hot} °C, cold {cold} °C' in texts
 
@@ -95,7 +95,7 @@ def test_a_pinch_is_where_it_is(content: bytes, hot: tuple[str, float], cold: tu
     drawn = answered(pinch, content)
     [place] = drawn.pinches
     sheet = targets_sheets(drawn.case, drawn.targets)[1]
-    assert [str(each) for each in sheet.rows[0]] == [drawn.shown.celsius(place.temperature), hot[0], cold[0]]
+    assert [str(each) for each in sheet.rows[0]] == [drawn.shown.temperature(place.temperature), hot[0], cold[0]]
     # Both sides have the same heat below it, and there it is drawn, with the curves as far apart as printed.
     heat = drawn.below(Side.HOT, place)
     assert heat == drawn.below(Side.COLD, place)

@@ -34,7 +34,7 @@ def test_as_few_as_published_at_the_least_cost(pinch: Pinch, name: str) -> None:
     verdict = pinch.audit(example(f'{name}.csv'), found.text)
     assert isinstance(verdict, Accepted) and verdict.cost == verdict.floor == found.verdict.cost
     assert found.text.startswith(f'# {found.exchangers} exchangers\n# bound: at least ')
-    cost, excess, unit = Shown().cost(verdict.cost), Shown().kilowatts(verdict.excess), 'price times W'
+    cost, excess, unit = Shown().cost(verdict.cost), Shown().heat(verdict.excess), 'price times W'
     assert f'\n# cost {cost} {unit}\n# floor {verdict.floor} {unit}\n# excess {excess} kW\n' in found.text
 
 

@@ -68,7 +68,7 @@ def test_numbers_are_in_engineers_units(steam: str, pinch: Pinch) -> None:
     shown, targets, verdict = Shown(read_case(case).basis), pinch.targets(case), pinch.audit(case, network)
     assert isinstance(verdict, Accepted)
     text = words_of(steam)
-    for wanted in (f'hot utility {shown.kilowatts(targets.hot)} kW', f'cold utility {shown.kilowatts(targets.cold)} kW',
+    for wanted in (f'hot utility {shown.heat(targets.hot)} kW', f'cold utility {shown.heat(targets.cold)} kW',
                    'shifted °C hot side °C cold side °C 145 150 140', f'cost {shown.cost(verdict.cost)} price times W',
                    f'floor: no network costs less {shown.cost(verdict.floor)} price times W',
                    'verdict accepted rejected', 'the target is missed: 40.007 (6001/150) °C instead of 40 °C'):

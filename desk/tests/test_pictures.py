@@ -58,13 +58,14 @@ def test_a_grid_diagram_has_every_number_and_nothing_on_another(name: str, pinch
     assert_readable(figure)
     shown, texts = Shown(plant.case.basis), ' '.join(svg_texts(figure)).split()
     for passage in plant.passages:
-        assert passage.exchanger.name in texts and shown.kilowatts(passage.exchanger.duty) in texts
+        assert passage.exchanger.name in texts and shown.heat(passage.exchanger.duty) in texts
     for stream in plant.case.streams:
-        wanted = [stream.name, shown.celsius(stream.supply), shown.celsius(stream.target), shown.kilowatts(stream.heat)]
-        flows = ['latent' if part.latent else shown.kilowatts_per_kelvin(part.cp) for part in parts_of(stream)]
+        wanted = [stream.name, shown.temperature(stream.supply), shown.temperature(stream.target),
+                  shown.heat(stream.heat)]
+        flows = ['latent' if part.latent else shown.flow(part.cp) for part in parts_of(stream)]
         assert {*wanted, flows[0], flows[-1]} <= set(texts)
     for pinch_at in pinch.targets(content).pinches:
-        assert shown.celsius(pinch_at) in texts
+        assert shown.temperature(pinch_at) in texts
     wide, high = figure.get_size_inches()
     assert wide <= 16.6 and high <= 16.6
 
@@ -117,7 +118,7 @@ def test_a_missed_target_is_drawn_as_missed(pinch: Pinch) -> None:
     figure = grid(pinch, content, less)
     assert_readable(figure)
     red = [text for text, _, each in texts_of(figure) if each.get_color() == FAULT]
-    found = Shown().celsius(verdict.found or Fraction(0), 3)
+    found = Shown().temperature(verdict.found or Fraction(0), 3)
     assert any(found in each and 'target' in each for each in red)
     assert any(each.startswith('Rejected at ') for each in red)
 
@@ -157,7 +158,7 @@ def test_of_several_pinches_each_is_drawn_and_streams_begin_there(pinch: Pinch) 
     figure = grid(pinch, content, text)
     texts = ' '.join(svg_texts(figure))
     for each in targets.pinches:
-        assert f'pinch {Shown().celsius(each)} °C' in texts
+        assert f'pinch {Shown().temperature(each)} °C' in texts
     assert len(dashed_of(figure)) == len(targets.pinches)
     # Two numbers beside each other would be read as one.
     boxes = [(text, box.padded(3)) for text, box, _ in texts_of(figure) if text.isdigit()]

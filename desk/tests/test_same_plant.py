@@ -4,13 +4,15 @@ from __future__ import annotations
 
 import re
 from collections.abc import Iterator
+from dataclasses import replace
 from fractions import Fraction
 from html import unescape
 from pathlib import Path
 
 import pytest
 from conftest import few_of
-from sameplant import PLAIN, STYLES, Files, Page, Said, Told, cells_of, csv_cells, files_of, texts_of, token_of
+from sameplant import (FIXED, OWN_UNITS, PLAIN, STYLES, Files, Page, Said, Style, Told, cells_of, csv_cells, files_of,
+                       texts_of, token_of)
 
 from pinchdesk import Pinch, Refused, read_case
 from pinchdesk.cli.main import main
@@ -19,6 +21,7 @@ from pinchdesk.words.all_words import all_words
 from pinchdesk.words.word import WordGroup
 
 Parts = list[Told | str]
+OWN = 'its own units, °F and MJ/h'
 # Columns of mere numbers: how many there are of something.
 COUNTS = ('sources', 'sets', 'exchangers', 'that can be joined', 'in the network', 'partly', 'splits',
           'exchangers so far', 'hot', 'cold')
@@ -41,10 +44,22 @@ def plain(tmp_path_factory: pytest.TempPathFactory) -> Files:
     return files_of(PLAIN, tmp_path_factory.mktemp('plain') / 'plant', Pinch())
 
 
-@pytest.fixture(scope='module', params=few_of(STYLES, ('a tenth, MW and K, per kW and year',)))
+@pytest.fixture(scope='module')
+def own(tmp_path_factory: pytest.TempPathFactory) -> Files:
+    """The plant in the units of its table."""
+    return files_of(STYLES[OWN], tmp_path_factory.mktemp('own') / 'plant', Pinch())
+
+
+@pytest.fixture(scope='module', params=few_of(STYLES, ('a tenth, MW and K, per kW and year', OWN)))
 def other(request: pytest.FixtureRequest, tmp_path_factory: pytest.TempPathFactory) -> Files:
     """The plant in another table."""
     return files_of(STYLES[request.param], tmp_path_factory.mktemp('other') / 'plant', Pinch())
+
+
+def skip_site(words: str, files: Files) -> None:
+    """A site has no units of its own."""
+    if files.style.own and words.split()[0] == 'site':
+        pytest.skip('a site has tenths of °C and 10 W/K')
 
 
 def told_of(answer: Said, files: Files) -> Parts:
@@ -58,8 +73,34 @@ def step_of(heading: str) -> Fraction:
     return Fraction(match[1]) if match else Fraction(1)
 
 
+def shape(text: str) -> str:
+    """A text without its numbers and units."""
+    units = '|'.join(map(re.escape, FIXED))
+    return re.sub(rf'-?\d+(\.\d+)?( \(\d+/\d+\))?|(?<![\w/])(?:{units})(?![\w/])', '#', text)
+
+
+def check_own(one: Parts, same: Parts, style: Style) -> None:
+    """Each number of the plain plant is that of a case in units of its own, in these. How much more of a stream is
+    asked for is a step of the case."""
+    assert [shape(part if isinstance(part, str) else part.place) for part in one] == [
+        shape(part if isinstance(part, str) else part.place) for part in same]
+    for first, second in zip(one, same):
+        if isinstance(first, Told) and isinstance(second, Told) and ' +' not in first.heading:
+            times_by_unit = OWN_UNITS | {'cost': ('cost', style.cost), 'price': ('price', style.price)}
+            unit, times = times_by_unit.get(first.unit, (first.unit, Fraction(1)))
+            zero, last = 32 if first.unit == '°C' else 0, Fraction(1, 200 if first.unit in ('°C', 'K') else 2000)
+            assert second.unit == unit, (first, second)
+            if first.heading in COUNTS or first.row in COUNTS:
+                times, zero = Fraction(1), 0
+            assert abs(first.value * times + zero - second.value) <= (1 + times) * last, (first, second)
+
+
 def check_same(one: Parts, same: Parts, files: Files) -> None:
     """Each number of the plain plant is that of the other one."""
+    if files.style.own:
+        check_own([part for part in one if shape(part if isinstance(part, str) else '-') != '#'],
+                  [part for part in same if shape(part if isinstance(part, str) else '-') != '#'], files.style)
+        return
     assert len(one) == len(same)
     for first, second in zip(one, same):
         if isinstance(first, str) or isinstance(second, str):
@@ -80,6 +121,7 @@ def check_units(told: Parts) -> None:
 
 @pytest.mark.parametrize('words', TABLES)
 def test_each_number_of_a_table_is_that_of_the_same_plant(words: str, plain: Files, other: Files) -> None:
+    skip_site(words, other)
     answers = [each.answer(words) for each in (plain, other)]
     one, same = told_of(answers[0], plain), told_of(answers[1], other)
     check_units(same)
@@ -87,6 +129,12 @@ def test_each_number_of_a_table_is_that_of_the_same_plant(words: str, plain: Fil
     for sheet in answers[1].sheets:
         headings = [each for each in sheet.headings if each]
         assert len(headings) == len(set(headings)), headings
+
+
+@pytest.mark.parametrize('words', few_of([words for words in TABLES if not words.startswith('site')], TABLES[:3]))
+def test_a_case_in_its_own_units_is_shown_in_si_where_that_is_asked(words: str, plain: Files, own: Files) -> None:
+    one, same = told_of(plain.answer(words), plain), told_of(own.answer(f'{words} --units SI'), own)
+    check_same(one, same, replace(own, style=replace(own.style, own=False)))
 
 
 @pytest.mark.parametrize('words', few_of(SEARCHES, ()))
@@ -99,7 +147,7 @@ def test_what_searches_find_is_told_in_the_same_units(words: str, plain: Files, 
                              zip((each.sheets[0] for each in answers), (plain, other))]
     else:
         texts = [str(each.content).split('\nexchanger')[0].split('\n') for each in answers]
-        assert all(re.search(r' kW$| exchangers$|<cost>$|^# bound|^# duties', token_of(line, other.style))
+        assert all(re.search(r' kW$| MJ/h$| exchangers$|<cost>$|^# bound|^# duties', token_of(line, other.style))
                    for line in texts[1])
         head = [[part for line in held if re.match('# (cost|floor)', line) for part in texts_of(line, files.style)]
                 for held, files in zip(texts, (plain, other))]
@@ -127,6 +175,7 @@ def parts_of_picture(files: Files, words: str) -> Parts:
 
 @pytest.mark.parametrize('words', PICTURES)
 def test_a_picture_is_that_of_the_same_plant(words: str, plain: Files, other: Files) -> None:
+    skip_site(words, other)
     one, same = parts_of_picture(plain, words), parts_of_picture(other, words)
     check_same(one, same, other)
 
@@ -158,6 +207,7 @@ def many_of(files: Files, words: str) -> Parts:
 
 @pytest.mark.parametrize('words', few_of(MANY, MANY[:10]))
 def test_a_row_of_many_is_that_of_the_same_plant(words: str, plain: Files, other: Files) -> None:
+    skip_site(words, other)
     one, same = many_of(plain, words), many_of(other, words)
     check_units(same)
     if words.split()[0] in ('network', 'tradeoff'):

@@ -223,12 +223,33 @@ class ChangeReader:
         return Change(source, field, Way.PERCENT, value, self.told.table.place(row.number, at), row.cell(at).text)
 
     def measured(self, row: TableRow, at: int, field: Field, way: Way) -> Fraction | None:
-        """A value in the program's unit, with the scale of the case; a change of a temperature is a difference."""
+        """A value in the program's unit, or in that of the case, with its scale; a change of a temperature is a
+        difference."""
         kind = KINDS[field]
-        entered = self.cells.measured(row, at, Kind.DIFFERENCE if kind is Kind.TEMPERATURE and way is Way.BY else kind)
-        if entered is None:
+        taken = Kind.DIFFERENCE if kind is Kind.TEMPERATURE and way is Way.BY else kind
+        entered = self.cells.measured(row, at, taken)
+        if entered is None or not self.has_unit(row, at):
             return None
-        return entered.value * self.basis.scale if self.basis and kind in (Kind.FLOW, Kind.HEAT) else entered.value
+        value = self.in_units_of_case(entered.value, taken)
+        return value * self.basis.scale if self.basis and kind in (Kind.FLOW, Kind.HEAT) else value
+
+    def has_unit(self, row: TableRow, at: int) -> bool:
+        """Whether a number has a unit, as those need for a case in units of its own: one without is told as a fault."""
+        units, number = self.basis.units if self.basis else None, self.cells.number(row, at)
+        if units is None or number and number[2] or self.layout.units.get(at):
+            return True
+        self.told.fault(row.number, at, f'the case is in {units.temperature} and {units.heat}: write with the number '
+                        'its unit')
+        return False
+
+    def in_units_of_case(self, value: Fraction, kind: Kind) -> Fraction:
+        """A number in tenths of °C, W or 10 W/K as the case has it."""
+        units = self.basis.units if self.basis else None
+        if units is None:
+            return value
+        of_kind = {Kind.TEMPERATURE: units.of_tenths, Kind.DIFFERENCE: units.of_tenths_between,
+                   Kind.HEAT: units.of_watts, Kind.FLOW: units.of_flow}
+        return of_kind[kind](value)
 
     def price(self, row: TableRow, at: int) -> Fraction | None:
         """A price in the unit of the case's prices, which it may name and no other."""

@@ -64,7 +64,7 @@ def headline(followed: Followed, verdict: Verdict) -> str:
     """A verdict in one sentence."""
     shown, unfinished = Shown(followed.case.basis), unfinished_told(followed)
     if isinstance(verdict, Accepted):
-        told = f'accepted, {shown.kilowatts(verdict.excess)} kW above the hot target'
+        told = f'accepted, {shown.heat(verdict.excess)} {shown.heat_unit} above the hot target'
         return f'{unfinished}; with utilities there it is {told}' if unfinished else told
     if isinstance(verdict, Rejected):
         finding = finding_of(followed, verdict, shown)
@@ -97,12 +97,12 @@ def measured(case: Case, stream: str | None, reason: str, value: Fraction | None
     source = case.source(stream) if stream else None
     latent = isinstance(source, Stream) and source.latent
     if reason in ('HotEndApproach', 'ColdEndApproach') or reason == 'MissedTarget' and not latent:
-        return exact(value / 10, 3) + ' °C'
+        return f'{exact(shown.in_temperature(value), 3)} {shown.temperature_unit}'
     if reason == 'MissedTarget' or reason == 'Overdrawn' and latent and part:
         return exact(value * 100, 3) + ' % of its load'
     if reason == 'UtilityRange' or latent:
-        return exact(shown.in_kilowatts(value), 6) + ' kW'
-    return exact(shown.in_kilowatts_per_kelvin(value), 6) + ' kW/K'
+        return f'{exact(shown.in_heat(value), 6)} {shown.heat_unit}'
+    return f'{exact(shown.in_flow(value), 6)} {shown.flow_unit}'
 
 
 def exact(value: Fraction, places: int) -> str:

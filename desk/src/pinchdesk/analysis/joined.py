@@ -273,12 +273,12 @@ class Joiner:
         mixed = {statement.to for statement in self.followed.network.statements if isinstance(statement, Mix)}
         split = {statement.branch for statement in self.followed.network.statements if isinstance(statement, Split)}
         for whole in self.wholes:
-            places = [shown.celsius(before.target) for before, segment in zip(whole.segments, whole.segments[1:])
+            places = [shown.temperature(before.target) for before, segment in zip(whole.segments, whole.segments[1:])
                       if self.followed.ends[before.name][0].branch.name in mixed and segment.name in split
                       and segment.name not in self.gone]
             if places:
-                yield f'{whole.name} is mixed and split again at {enumerated(places)} °C, as the program has it: an ' \
-                      'exchanger of a branch that goes on there is shown as two'
+                yield f'{whole.name} is mixed and split again at {enumerated(places)} {shown.temperature_unit}, as the ' \
+                      'program has it: an exchanger of a branch that goes on there is shown as two'
 
 
 def enumerated(texts: Iterable[str]) -> str:

@@ -6,42 +6,73 @@ from fractions import Fraction
 from ..errors import WordsError
 from ..formats.amounts import exact, shortened
 from ..formats.case import Case
-from ..formats.shown import decimal
+from ..formats.case_units import CaseUnits
+from ..formats.shown import decimal, is_rounded
 from ..program.answers import Cut, SweepRow
 from ..program.run import CaseText, Pinch
+from ..tables.numbers import numeral_of
+from ..tables.units import Kind, unit_of
 
-# The limits of the program: of a least difference in K, of rows, of workers.
-MOST_KELVIN, MOST_ROWS, MOST_WORKERS = 200, 1000, 16
+# The limits of the program: of a contribution in steps of the case, of rows, of workers.
+MOST_CONTRIBUTION, MOST_ROWS, MOST_WORKERS = 1000, 1000, 16
 
 
-def contribution_of(text: str) -> int:
-    """Half of a least difference in K, in tenths of °C; `WordsError` where that is no whole number, or out of its
+def steps_of(text: str, units: CaseUnits | None) -> Fraction:
+    """A least difference in steps of the case; a `ValueError` where it is no number. That of a case in tenths of °C is
+    in K; of one in units of its own it may have its unit, and needs it where degrees are no kelvins."""
+    number = text.replace(',', '.')
+    if units is None:
+        return exact(number) * CaseUnits().steps
+    numeral = numeral_of(number)
+    value = Fraction(numeral.value('.'))
+    if numeral.unit:
+        return units.of_tenths_between(unit_of(numeral.unit, Kind.DIFFERENCE).exact(value))
+    if units.difference != 'K':
+        raise WordsError(f'the least difference {shortened(text)} has no unit, and the case is in {units.temperature}: '
+                         f'say "{shortened(text)} {units.difference}", or in kelvins as "10 K"')
+    return value * units.steps
+
+
+def shown_steps(steps: int, units: CaseUnits | None) -> str:
+    """So many steps of the case as a difference with its unit."""
+    known = units or CaseUnits()
+    difference = known.shown_difference(steps)
+    told = str(difference) if is_rounded(difference, 6) else decimal(difference, 6)
+    return f'{told} {known.difference}'
+
+
+def contribution_of(text: str, units: CaseUnits | None = None) -> int:
+    """Half of a least difference in steps of the case; `WordsError` where that is no whole number, or out of its
     limits."""
     try:
-        contribution = exact(text.replace(',', '.')) * 5
+        contribution = steps_of(text, units) / 2
     except ValueError:
         contribution = Fraction(-1)
-    if contribution > 5 * MOST_KELVIN:
-        raise WordsError(f'a least difference is {MOST_KELVIN} K at most, and {shortened(text)} is more')
+    if contribution > MOST_CONTRIBUTION:
+        raise WordsError(f'a least difference is {shown_steps(2 * MOST_CONTRIBUTION, units)} at most, and '
+                         f'{shortened(text)} is more')
     if contribution.denominator != 1 or contribution < 0:
-        raise WordsError(f'{shortened(text)} is not a least difference in K: it needs a number of fifths of a K, as 10 '
-                         'or 2.4')
+        wanted = f'multiple of {shown_steps(2, units)}' if units else 'number of fifths of a K, as 10 or 2.4'
+        raise WordsError(f'{shortened(text)} is not a least difference in {(units or CaseUnits()).difference}: it '
+                         f'needs a {wanted}')
     return int(contribution)
 
 
-def asked_range(first: str, last: str, step: str, workers: int) -> tuple[int, int, int]:
-    """The first and the last contribution and the step of a sweep that is asked for by least differences in K;
-    `WordsError` where there is no such sweep."""
-    begin, end, by = (contribution_of(difference) for difference in (first, last, step))
+def asked_range(first: str, last: str, step: str, workers: int,
+                units: CaseUnits | None = None) -> tuple[int, int, int]:
+    """The first and the last contribution and the step of a sweep that is asked for by least differences, of a case in
+    these units of its own, if it has some; `WordsError` where there is no such sweep."""
+    begin, end, by = (contribution_of(difference, units) for difference in (first, last, step))
     if begin > end:
-        raise WordsError(f'the first least difference, {first} K, is above the last one, {last} K')
+        raise WordsError(f'the first least difference, {shown_steps(2 * begin, units)}, is above the last one, '
+                         f'{shown_steps(2 * end, units)}')
     if not by:
-        raise WordsError('the step is 0: a fifth of a K is the least')
+        raise WordsError(f'the step is 0: {shown_steps(2, units) if units else "a fifth of a K"} is the least')
     rows = (end - begin) // by + 1
     if rows > MOST_ROWS:
-        least = Fraction((end - begin) // MOST_ROWS + 1, 5)
+        least = 2 * ((end - begin) // MOST_ROWS + 1)
         raise WordsError(f'a sweep has {MOST_ROWS} rows at most, and this one would have {rows}: take a step of '
-                         f'{decimal(least, 1)} K or more')
+                         f'{shown_steps(least, units)} or more')
     check_workers(workers)
     return begin, end, by
 

@@ -14,6 +14,7 @@ from typing import TypeVar
 from ..errors import Refused
 from ..formats.amounts import rounded
 from ..formats.case import ANY_HEAT, Case, Source, Stream, Utility, case_rows, completed, read_case
+from ..formats.case_units import CaseUnits
 from ..formats.comments import Basis, basis_rows
 from ..formats.limits import outside_of_row
 from ..formats.whole_streams import WholeStream, whole_streams
@@ -26,7 +27,6 @@ from .segment_changes import fault_in_segments, on_segments, with_streams
 
 LATENT, SENSIBLE = ('level', 'load', 'contribution'), ('supply', 'target', 'CP', 'load', 'contribution')
 OF_UTILITY = ('level', 'supply', 'least', 'most', 'price', 'contribution')
-ONE_KELVIN = 10
 Asked = TypeVar('Asked')
 Given = TypeVar('Given')
 
@@ -61,8 +61,8 @@ class ScenarioOutcome:
 
 @dataclass(frozen=True)
 class PlusMinus:
-    """How many W the hot target rises by with a little more (`little`) of a stream's CP, or of the load of a latent
-    one, and with its supply and its target (its level) one K higher. None where there is no such case."""
+    """By how much heat the hot target rises with a little more (`little`) of a stream's CP, or of the load of a latent
+    one, and with its supply and its target (its level) a little higher. None where there is no such case."""
 
     stream: Stream
     size: int | None
@@ -147,7 +147,8 @@ def told(case: Case, fault: Refused) -> str:
     number = fault.place.split()[-1]
     at = int(number) - 1 if number.isdigit() else len(rows)
     where = f'{rows[at][1]}: ' if at < len(rows) and rows[at][1] else ''
-    said = outside_of_row(rows[at]) if at < len(rows) and fault.cause == 'OutOfRange' else ''
+    said = outside_of_row(rows[at], case.basis.units is not None) \
+        if at < len(rows) and fault.cause == 'OutOfRange' else ''
     return f'{where}{said or CAUSES.get(fault.cause, "refused")} ({fault.cause})'
 
 
@@ -280,20 +281,30 @@ def cases_with_more(stream: Stream, case: Case) -> tuple[Case | None, Case | Non
             with_streams(case, {last: more[last][2]}) if last in more else None)
 
 
-def little(basis: Basis) -> tuple[int, int]:
-    """How much a CP and a load are made larger: 0.01 kW/K and 1 kW of the plant, or what a case can hold that is not
-    less."""
-    return max(1, ceil(basis.scale)), max(1, ceil(1000 * basis.scale))
+@dataclass(frozen=True)
+class Little:
+    """How much a CP, a load and a temperature are made larger, in the numbers of a case."""
+
+    cp: int
+    load: int
+    degree: int
+
+
+def little(basis: Basis) -> Little:
+    """0.01 kW/K and 1 kW of the plant, or what a case can hold that is not less, and one degree of its own."""
+    units = basis.units or CaseUnits()
+    cp, load = units.of_flow(Fraction(1)) * basis.scale, units.of_watts(Fraction(1000)) * basis.scale
+    return Little(max(1, ceil(cp)), max(1, ceil(load)), max(1, ceil(units.steps)))
 
 
 def little_more(stream: Stream, case: Case) -> tuple[Stream, Stream, Stream]:
     """The stream with a larger size, with a warmer supply, with a warmer target; a latent one has one level."""
-    more_cp, more_load = little(case.basis)
+    more = little(case.basis)
     if stream.latent:
-        warmer = replace(stream, supply=stream.supply + ONE_KELVIN, target=stream.target + ONE_KELVIN)
-        return replace(stream, load=stream.load + more_load), warmer, warmer
-    return (replace(stream, cp=stream.cp + more_cp), replace(stream, supply=stream.supply + ONE_KELVIN),
-            replace(stream, target=stream.target + ONE_KELVIN))
+        warmer = replace(stream, supply=stream.supply + more.degree, target=stream.target + more.degree)
+        return replace(stream, load=stream.load + more.load), warmer, warmer
+    return (replace(stream, cp=stream.cp + more.cp), replace(stream, supply=stream.supply + more.degree),
+            replace(stream, target=stream.target + more.degree))
 
 
 def rise(pinch: Pinch, case: Case, base: Targets) -> int | None:

@@ -75,7 +75,7 @@ def done(job: Job) -> JobOutcome:
 def outcome_of(job: Job, word: Word[Any]) -> JobOutcome:
     form = None if job.output is None else word.forms.of(job.output, None)
     with drawing(word, form):
-        answer = word.run(job.files, job.options, nobody)
+        answer = word.answer(job.files, job.options, nobody)
         content = None if form is None else answer.content(form)
     return JobOutcome(job.number, answer.status, cells_of(answer), notes=answer.notes, content=content, no=answer.no)
 

@@ -35,7 +35,7 @@ def answered(word: Word[Any], _: tuple[str, ...], parsed: Namespace) -> int:
         files = read_files(paths)
         others = [*inputs, *([parsed.output] if parsed.output is not None else [])]
         places = further_places(word, parsed, others)
-        answer = word.run(files, counted(options_of(word, parsed), parsed.begun), tell)
+        answer = word.answer(files, counted(options_of(word, parsed), parsed.begun), tell)
         content = answer.content(form)
         notes = with_further(word, answer, places, others)
     write(content, notes, parsed.output, inputs)

@@ -217,10 +217,10 @@ class CostData:
 
     @cached_property
     def year_of_cost(self) -> Fraction:
-        """What a cost of the program, price times W, is a year in the money of the capital."""
+        """What a cost of the program is a year in the money of the capital."""
         basis = self.case.basis
         money, _, time = basis.cost_unit.replace('per ', '/').partition('/')
-        if time not in ('a', 'h') or money == 'price times W':
+        if time not in ('a', 'h') or money.startswith('price times'):
             raise refused('prices', 'they have no unit, so their cost has none that could be added to a capital: '
                           'enter rows `#price,EUR/MWh,DIVISOR,,,,` and `#cost,EUR/h,DIVISOR,,,,`, or make the case of '
                           'a table with a unit of prices')

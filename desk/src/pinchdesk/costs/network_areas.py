@@ -17,7 +17,7 @@ from ..errors import DeskError, Refused
 from ..formats.case import Case, Side, Utility, completed, read_case
 from ..formats.cost_rows import Flow, Service
 from ..formats.network import Network, read_network
-from ..formats.shown import decimal
+from ..formats.shown import Shown, decimal
 from ..program.run import CaseText, NetworkText, Pinch
 from ..program.verdicts import Accepted, Rejected, TooFine, ending
 from .annual import at_most
@@ -48,10 +48,13 @@ class ApproachFault:
     end: str
     found: Fraction
     wanted: Fraction
+    shown: Shown = Shown()
 
     def __str__(self) -> str:
-        return f'exchanger {self.exchanger}: at its {self.end} end the difference is {decimal(self.found, 2)} K with ' \
-               f'the real ends of its utility, and {decimal(self.wanted, 2)} K are needed'
+        found, wanted = (f'{self.shown.kelvin(number)} {self.shown.difference_unit}'
+                         for number in (self.found, self.wanted))
+        return f'exchanger {self.exchanger}: at its {self.end} end the difference is {found} with the real ends of ' \
+               f'its utility, and {wanted} are needed'
 
 
 @dataclass(frozen=True)
@@ -167,7 +170,7 @@ def approach_faults(data: CostData, passage: Passage) -> Iterator[ApproachFault]
         for duty in part_duties(data, passage):
             for end, found in differences(duty):
                 if found < wanted:
-                    yield ApproachFault(passage.exchanger.name, end, found, wanted)
+                    yield ApproachFault(passage.exchanger.name, end, found, wanted, Shown(data.case.basis))
 
 
 def part_duties(data: CostData, passage: Passage) -> Iterator[Duty]:

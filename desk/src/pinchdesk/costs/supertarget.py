@@ -96,7 +96,7 @@ def supertarget(case: CaseText, first: int, last: int, step: int, pinch: Pinch |
         answers = pool.map(lambda contribution: answers_at(asked, at_contribution(whole, contribution)), shifts)
         found = [point_at(data, contribution, answer, by_sets) for contribution, answer in zip(shifts, answers)]
     points = tuple(point for point in found if isinstance(point, SupertargetPoint))
-    without = tuple((Fraction(contribution, 5), point) for contribution, point in zip(shifts, found)
+    without = tuple((kelvin_of(data, contribution), point) for contribution, point in zip(shifts, found)
                     if isinstance(point, str))
     if not points:
         raise Refused(3, 'case', 'no supertarget', f'case: no difference of the range has a cost: {without[0][1]}')
@@ -134,7 +134,7 @@ def point_at(data: CostData, contribution: int, answer: tuple[Case, Targets, Hea
         if fault.place == 'case balanced curves':
             return fault.text
         raise
-    return point_of(data, Fraction(contribution, 5), uses, built, Fraction(flow.cost))
+    return point_of(data, kelvin_of(data, contribution), uses, built, Fraction(flow.cost))
 
 
 @dataclass(frozen=True)
@@ -170,6 +170,11 @@ def point_of(data: CostData, difference: Fraction, uses: Mapping[str, Fraction],
     hot, cold = (side_use(data, uses, side) for side in (Side.HOT, Side.COLD))
     return SupertargetPoint(difference, uses, hot, cold, built.area, built.units, built.shells, parts, program_cost,
                             cost, found)
+
+
+def kelvin_of(data: CostData, contribution: int) -> Fraction:
+    """The least difference in K that a contribution of the case makes."""
+    return 2 * data.kelvins(contribution)
 
 
 def side_use(data: CostData, uses: Mapping[str, int | Fraction], side: Side) -> Fraction:

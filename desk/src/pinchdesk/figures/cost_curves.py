@@ -8,7 +8,7 @@ from matplotlib.axes import Axes
 from matplotlib.figure import Figure
 
 from ..costs.supertarget import Supertarget, SupertargetPoint
-from ..formats.shown import decimal
+from ..formats.shown import Shown
 from .axes import entitled, fitted, legend_below, plainly, spaced
 from .style import ACROSS, COLD, HOT, INK, PALE, blank, framed, said, styled
 
@@ -19,7 +19,8 @@ def supertarget_figure(found: Supertarget) -> Figure:
     with styled():
         figure = blank(8, 5.8)
         axes = figure.subplots()
-        across = [float(point.difference) for point in found.points]
+        shown = Shown(found.data.case.basis)
+        across = [in_degrees(point.difference, shown) for point in found.points]
         for label, colour, cost in curves_of():
             axes.plot(across, [float(cost(point)) for point in found.points], color=colour, linewidth=1.5, label=label)
         if found.without:
@@ -28,7 +29,8 @@ def supertarget_figure(found: Supertarget) -> Figure:
         put_least(axes, found)
         put_area(axes.twinx(), found, across)
         money = said(found.data.capital.currency)
-        entitled(axes, 'least difference in K', f'{money} a year', headline_of(found, money))
+        entitled(axes, f'least difference in {shown.difference_unit}', f'{money} a year',
+                 headline_of(found, money, shown))
         axes.set_ylim(bottom=0)
         plainly(axes)
         framed(axes)
@@ -45,13 +47,18 @@ def curves_of() -> tuple[tuple[str, str, Callable[[SupertargetPoint], Fraction]]
             ('energy and capital', INK, lambda point: point.cost.whole.middle))
 
 
-def put_least(axes: Axes, found: Supertarget) -> None:
+def in_degrees(kelvin: Fraction, shown: Shown) -> float:
+    """A difference in K in the unit of the case."""
+    return float(shown.in_difference(shown.units.of_tenths_between(kelvin * 10)))
+
+
+def put_least(axes: Axes, found: Supertarget, shown: Shown) -> None:
     """The least, and the range in which the cost is within one per cent of it."""
     least = found.least
-    first, last = (float(difference) for difference in least.flat)
+    first, last = (in_degrees(difference, shown) for difference in least.flat)
     axes.axvspan(first, last, color=PALE, alpha=0.12, linewidth=0)
     marked = 'least, found between two answers' if least.point.found else 'least'
-    axes.plot([float(least.point.difference)], [float(least.annual.middle)], 'o', color=INK, markersize=5,
+    axes.plot([in_degrees(least.point.difference, shown)], [float(least.annual.middle)], 'o', color=INK, markersize=5,
               label=f'{marked}; grey: within 1 %')
 
 
@@ -65,8 +72,9 @@ def put_area(axes: Axes, found: Supertarget, across: list[float]) -> None:
     axes.spines['top'].set_visible(False)
 
 
-def headline_of(found: Supertarget, money: str) -> str:
+def headline_of(found: Supertarget, money: str, shown: Shown) -> str:
     least = found.least
-    first, last = (decimal(difference, 1) for difference in least.flat)
-    return f'Least annual cost {least.annual.shown(0)} {money} at {decimal(least.point.difference, 2)} K, within 1 % ' \
-           f'from {first} to {last} K'
+    first, last = (shown.kelvin(difference, 1) for difference in least.flat)
+    place, unit = shown.kelvin(least.point.difference), shown.difference_unit
+    return f'Least annual cost {least.annual.shown(0)} {money} at {place} {unit}, within 1 % from {first} ' \
+           f'to {last} {unit}'

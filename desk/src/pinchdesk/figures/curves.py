@@ -7,7 +7,7 @@ from matplotlib.figure import Figure
 from ..formats.case import Case, Side
 from ..program.answers import Curves, Cut, HeatFlow, Targets
 from .axes import fitted, legend_below, spaced
-from .panels import BALANCED, COMPOSITE, GRAND, Panel
+from .panels import BALANCED, COMPOSITE, GRAND, Panel, heat_of
 from .style import blank, styled
 from .utilities_used import Drawn, drawn_of
 
@@ -76,15 +76,16 @@ def single(panel: Panel, drawn: Drawn) -> Figure:
 def headline(drawn: Drawn) -> str:
     """Both targets and the pinches, and what is used where that is more."""
     shown = drawn.shown
-    pinches = ', '.join(shown.celsius(pinch.temperature) for pinch in drawn.pinches)
-    told = f'pinch{"es" if "," in pinches else ""} at {pinches} °C shifted' if pinches else 'no pinch'
-    hot, cold = shown.kilowatts(drawn.targets.hot), shown.kilowatts(drawn.targets.cold)
-    text = f'Targets: hot utility {hot} kW, cold utility {cold} kW, {told}'
+    pinches = ', '.join(shown.temperature(pinch.temperature) for pinch in drawn.pinches)
+    word = 'pinches' if ',' in pinches else 'pinch'
+    told = f'{word} at {pinches} {shown.temperature_unit} shifted' if pinches else 'no pinch'
+    hot, cold = (heat_of(heat, shown) for heat in (drawn.targets.hot, drawn.targets.cold))
+    text = f'Targets: hot utility {hot}, cold utility {cold}, {told}'
     if not drawn.feasible:
         return f'{text} ({NO_FLOW})'
     if drawn.beyond:
-        used = [shown.kilowatts(drawn.used(side)) for side in (Side.HOT, Side.COLD)]
-        text += f'\nUsed by the heat flow of least cost: hot utility {used[0]} kW, cold utility {used[1]} kW'
+        used = [heat_of(drawn.used(side), shown) for side in (Side.HOT, Side.COLD)]
+        text += f'\nUsed by the heat flow of least cost: hot utility {used[0]}, cold utility {used[1]}'
     return text
 
 

@@ -32,8 +32,8 @@ class Panel:
 
 
 def at(shown: Shown, heat: Fraction | int, temperature: Fraction | int) -> Xy:
-    """A corner in kW and °C."""
-    return float(shown.in_kilowatts(heat)), float(temperature) / 10
+    """A corner in the units of the case."""
+    return float(shown.in_heat(heat)), float(shown.in_temperature(temperature))
 
 
 def corners_of(points: Sequence[Point], start: int = 0) -> list[Corner]:
@@ -48,15 +48,21 @@ def ends_of(span: DrawnSpan, shown: Shown) -> list[Xy]:
     return [at(shown, span.first, span.temperature), at(shown, span.last, span.temperature)]
 
 
+def heat_of(heat: Fraction | int, shown: Shown) -> str:
+    return f'{shown.heat(heat)} {shown.heat_unit}'
+
+
 def legend_of(used: Used, shown: Shown) -> str:
+    heat, unit = heat_of(used.heat, shown), shown.temperature_unit
     if used.utility.invented:
-        return f'{used.utility.name}: {shown.kilowatts(used.heat)} kW'
-    level, shifted = shown.celsius(used.utility.level), shown.celsius(used.level)
-    more = '' if level == shifted else f' ({shifted} °C shifted)'
-    return f'{used.utility.name} at {level} °C{more}: {shown.kilowatts(used.heat)} kW'
+        return f'{used.utility.name}: {heat}'
+    level, shifted = shown.temperature(used.utility.level), shown.temperature(used.level)
+    more = '' if level == shifted else f' ({shifted} {unit} shifted)'
+    return f'{used.utility.name} at {level} {unit}{more}: {heat}'
 
 
-def finish(axes: Axes, curves: Sequence[Sequence[Xy]], levels: Sequence[float], upright: str, title: str) -> None:
+def finish(axes: Axes, curves: Sequence[Sequence[Xy]], levels: Sequence[float], shown: Shown, title: str,
+           scale: str = 'temperature') -> None:
     """Scales and titles; the upright scale is broken where a level lies far off."""
     temperatures = [point[1] for curve in curves for point in curve]
     gaps = gaps_of(temperatures, levels)
@@ -68,8 +74,8 @@ def finish(axes: Axes, curves: Sequence[Sequence[Xy]], levels: Sequence[float], 
     axes.autoscale(axis='x')
     if axes.get_xlim()[1] - axes.get_xlim()[0] < 1e-9:
         axes.set_xlim(-1, 1)
-    axes.set_xlabel('heat in kW', labelpad=2)
-    axes.set_ylabel(upright)
+    axes.set_xlabel(f'heat in {shown.heat_unit}', labelpad=2)
+    axes.set_ylabel(f'{scale} in {shown.temperature_unit}')
     axes.set_title(title)
     framed(axes)
 
@@ -111,7 +117,7 @@ def put_composite(axes: Axes, drawn: Drawn) -> None:
     for pinch in drawn.pinches:
         put_pinch(axes, drawn, pinch, (corners_of(curves.hot), corners_of(curves.cold, drawn.targets.cold)),
                   Fraction(drawn.below(Side.HOT, pinch)))
-    finish(axes, [hot, cold], [], 'temperature in °C', 'Composite curves')
+    finish(axes, [hot, cold], [], shown, 'Composite curves')
 
 
 def put_pinch(axes: Axes, drawn: Drawn, pinch: PinchPoint, curves: tuple[list[Corner], list[Corner]],
@@ -139,7 +145,7 @@ def label_composite(axes: Axes, drawn: Drawn) -> None:
             axes.annotate('', (first, level), (last, level), zorder=5, annotation_clip=False,
                           arrowprops={'arrowstyle': '<->', 'color': INK, 'linewidth': 0.9, 'shrinkA': 0, 'shrinkB': 0})
             labels.keep_off([(first, level), (last, level)])
-            labels.put(f'{name} {shown.kilowatts(heat)} kW', ((first + last) / 2, level), fontweight='bold')
+            labels.put(f'{name} {heat_of(heat, shown)}', ((first + last) / 2, level), fontweight='bold')
     for pinch, line in zip(drawn.pinches, [line for line in axes.get_lines() if line.get_gid() == 'pinch']):
         labels.put(told_pinch(drawn, pinch), *reversed(points_of(line)))
 
@@ -147,7 +153,8 @@ def label_composite(axes: Axes, drawn: Drawn) -> None:
 def told_pinch(drawn: Drawn, pinch: PinchPoint) -> str:
     hot, cold = (temperatures_at(drawn.case, side, pinch.temperature).told(drawn.shown)
                  for side in (Side.HOT, Side.COLD))
-    return f'pinch {drawn.shown.celsius(pinch.temperature)} °C shifted:\nhot {hot} °C, cold {cold} °C'
+    unit = drawn.shown.temperature_unit
+    return f'pinch {drawn.shown.temperature(pinch.temperature)} {unit} shifted:\nhot {hot} {unit}, cold {cold} {unit}'
 
 
 def put_balanced(axes: Axes, drawn: Drawn) -> None:
@@ -159,14 +166,14 @@ def put_balanced(axes: Axes, drawn: Drawn) -> None:
         for span in reversed(spans):
             put_span(axes, span, shown)
         curves.append(corners)
-        levels += [span.temperature / 10 for span in spans]
+        levels += [float(shown.in_temperature(span.temperature)) for span in spans]
     for pinch in drawn.pinches:
         heats = [drawn.balanced_below(side, pinch) for side in (Side.HOT, Side.COLD)]
         # Where more is used than the targets heat crosses the pinch, and the curves are apart there.
         if heats[0] == heats[1]:
             put_pinch(axes, drawn, pinch, (curves[0], curves[1]), Fraction(heats[0]))
     streams = [corners_of(points) for points in (drawn.curves.hot, drawn.curves.cold) if points]
-    finish(axes, [drawn_at(stream_corners, shown) for stream_corners in streams], levels, 'temperature in °C',
+    finish(axes, [drawn_at(stream_corners, shown) for stream_corners in streams], levels, shown,
            'Balanced composite curves')
 
 
@@ -186,8 +193,8 @@ def put_grand(axes: Axes, drawn: Drawn) -> None:
     shown, spans = drawn.shown, stairs(drawn)
     net = drawn_at(corners_of(drawn.curves.net), shown)
     if drawn.beyond:
-        axes.axvspan(float(shown.in_kilowatts(-drawn.beyond)), 0, color='#f3ecf6', zorder=0,
-                     label=f'used beyond the targets: {shown.kilowatts(drawn.beyond)} kW')
+        axes.axvspan(float(shown.in_heat(-drawn.beyond)), 0, color='#f3ecf6', zorder=0,
+                     label=f'used beyond the targets: {heat_of(drawn.beyond, shown)}')
     axes.axvline(0, color=INK, linewidth=0.8)
     put_curve(axes, net, INK, 'grand composite curve')
     steps = [net[0], *[point for span in spans for point in ends_of(span, shown)], net[-1]]
@@ -197,16 +204,18 @@ def put_grand(axes: Axes, drawn: Drawn) -> None:
     for span in spans:
         put_span(axes, span, shown)
     for pinch in drawn.pinches:
-        axes.plot([0], [pinch.temperature / 10], marker='o', markersize=8, markerfacecolor='none', color=PALE,
-                  linestyle='none')
-    finish(axes, [net], [span.temperature / 10 for span in spans], 'shifted temperature in °C', 'Grand composite curve')
+        axes.plot([0], [float(shown.in_temperature(pinch.temperature))], marker='o', markersize=8,
+                  markerfacecolor='none', color=PALE, linestyle='none')
+    levels = [float(shown.in_temperature(span.temperature)) for span in spans]
+    finish(axes, [net], levels, shown, 'Grand composite curve', 'shifted temperature')
 
 
 def label_grand(axes: Axes, drawn: Drawn) -> None:
     labels, shown = labels_of(axes, ('curve', 'utility', 'stairs')), drawn.shown
     labels.keep_off([(0.0, limit) for limit in axes.get_ylim()])
     for pinch in drawn.pinches:
-        labels.put(f'pinch {shown.celsius(pinch.temperature)} °C', (0, pinch.temperature / 10))
+        labels.put(f'pinch {shown.temperature(pinch.temperature)} {shown.temperature_unit}',
+                   (0, float(shown.in_temperature(pinch.temperature))))
     name_spans(labels, stairs(drawn), shown)
 
 

@@ -77,6 +77,6 @@ def put_labels(axes: Axes, segments: Sequence[Segment], shown: Shown) -> None:
         if at >= MOST_LABELS:
             break
         middle = ((line[0][0] + line[1][0]) / 2, (line[0][1] + line[1][1]) / 2)
-        labels.put(f'{shown.kilowatts(segment.slope)} kW', middle, color=HOT, fontsize=8)
+        labels.put(f'{shown.heat(segment.slope)} {shown.heat_unit}', middle, color=HOT, fontsize=8)
         for price, point in zip(dict.fromkeys((segment.first, segment.last)), line):
             labels.put(f'{shown.price(price)}: {shown.cost(segment.cost(price))}', point, fontsize=8)

@@ -24,12 +24,13 @@ def site_figure(site: Site, answer: SiteAnswer) -> Figure:
     with styled():
         figure = blank(8.6, 5.8)
         axes = figure.subplots()
-        source = [(-float(shown.in_kilowatts(profile.source)), profile.temperature / 10) for profile in answer.profiles]
-        sink = [(float(shown.in_kilowatts(profile.sink)), profile.temperature / 10) for profile in answer.profiles]
+        levels = [float(shown.in_temperature(profile.temperature)) for profile in answer.profiles]
+        source = [(-float(shown.in_heat(profile.source)), level) for profile, level in zip(answer.profiles, levels)]
+        sink = [(float(shown.in_heat(profile.sink)), level) for profile, level in zip(answer.profiles, levels)]
         axes.plot(*zip(*source), color=HOT, marker='o', markersize=3, linewidth=1.5,
-                  label=f'heat to give: {shown.kilowatts(answer.profiles[0].source)} kW in all')
+                  label=f'heat to give: {shown.heat(answer.profiles[0].source)} {shown.heat_unit} in all')
         axes.plot(*zip(*sink), color=COLD, marker='o', markersize=3, linewidth=1.5,
-                  label=f'heat to take: {shown.kilowatts(answer.profiles[-1].sink)} kW in all')
+                  label=f'heat to take: {shown.heat(answer.profiles[-1].sink)} {shown.heat_unit} in all')
         finish(axes, [*source, *sink], title_of(answer, shown))
         put_mains(axes, site, [source, sink])
     return figure
@@ -38,7 +39,8 @@ def site_figure(site: Site, answer: SiteAnswer) -> Figure:
 def title_of(answer: SiteAnswer, shown: Shown) -> str:
     if answer.boiler is None or answer.cooling is None:
         return 'Site profiles: no heat flow'
-    return f'Site profiles: boiler {shown.kilowatts(answer.boiler)} kW, cooling {shown.kilowatts(answer.cooling)} kW'
+    boiler, cooling = (f'{shown.heat(heat)} {shown.heat_unit}' for heat in (answer.boiler, answer.cooling))
+    return f'Site profiles: boiler {boiler}, cooling {cooling}'
 
 
 def finish(axes: Axes, points: Sequence[Xy], title: str) -> None:
@@ -57,9 +59,11 @@ def put_mains(axes: Axes, site: Site, profiles: Sequence[list[Xy]]) -> None:
     lines: list[tuple[str, Xy, list[Xy]]] = []
     for main in site.mains:
         for edge, level in ((low, main.level + site.contribution), (high, main.level - site.contribution)):
-            line = [(edge, level / 10), (0.0, level / 10)]
+            height = float(shown.in_temperature(level))
+            line = [(edge, height), (0.0, height)]
             axes.plot(*zip(*line), color=MAIN, linestyle='--', linewidth=1)
-            lines.append((f'{said(main.name)} {shown.celsius(level)} °C', (edge * 0.72, level / 10), line))
+            text = f'{said(main.name)} {shown.temperature(level)} {shown.temperature_unit}'
+            lines.append((text, (edge * 0.72, height), line))
     axes.plot([], [], color=MAIN, linestyle='--', linewidth=1, label='mains')
     legend_below(axes)
     fitted(axes.figure)

@@ -1,8 +1,9 @@
 """The case file: the only reader of it in the desk, and its printer (docs/FORMATS.md, *The case file*).
 
 Numbers are whole, in the program's units: temperatures and contributions in tenths of °C, CPs in 10 W/K, heats in W,
-prices per W. What a case cannot say for the program, it says for the desk in rows that begin with `#` and that the
-program passes over: the scale, the units of prices and costs, and the names that a table had (`Basis`)."""
+prices per W; or, where the case has units of its own, in steps of its degree and parts of its unit of heats. What a
+case cannot say for the program, it says for the desk in rows that begin with `#` and that the program passes over: the
+scale, the units, those of prices and costs, and the names that a table had (`Basis`)."""
 from __future__ import annotations
 
 import csv
@@ -13,12 +14,14 @@ from collections.abc import Iterable, Iterator, Sequence
 from dataclasses import dataclass, field, replace
 
 from ..errors import Refused, refused_row
+from .case_units import CaseUnits, read_units, units_row
 from .comments import Basis as Basis
 from .comments import basis_rows, noted
 from .long_fields import long_fields
 from .segments import segment_fault
 
 ANY_HEAT = 10 ** 12
+SAID_UNITS = re.compile(rb'(?m)^((?:\xef\xbb\xbf)?)#units,[^\r\n]*')
 NUMBER = re.compile(r'-?[0-9]{1,13}')
 
 
@@ -223,19 +226,33 @@ class CaseReader:
                 raise Refused(3, place, 'segment', f'{place} #segment: {fault.cause}')
 
 
-def read_case(text: str | bytes, own_units: bool = False) -> Case:
+def read_case(text: str | bytes) -> Case:
     """The case of a file's text. `Refused` where it is none as far as this reader sees; all limits are for the program
-    to check. A case in units of its own is refused where these are not asked for: whoever takes its numbers for tenths
-    of °C and W would be wrong."""
+    to check. Its numbers are tenths of °C and W, or steps and parts of its own units (`Basis.units`)."""
     reader, at = CaseReader(), 0
     for at, row in records(text):
         reader.take(at, row)
-    case = reader.made(at)
-    if case.basis.units and not own_units:
-        cause = f'the case is in {case.basis.units.temperature} and {case.basis.units.heat}, and this reads cases in ' \
-                '°C and W alone: make it without --units table'
-        raise Refused(3, 'case', 'units', cause)
-    return case
+    return reader.made(at)
+
+
+def units_of(text: str | bytes) -> CaseUnits | None:
+    """The units of its own that a case says; None where it says none, or none that there can be."""
+    try:
+        return next((read_units(row) for _, row in records(text) if row[0] == '#units' and len(row) == 7), None)
+    except (ValueError, csv.Error):
+        return None
+
+
+def said_in_si(content: bytes) -> bytes:
+    """A case in units of its own with the same numbers, said in °C and kW: all but its row `#units` stays as it is."""
+    units = units_of(content)
+    if units is None:
+        return content
+    in_si = units.si
+    said = SAID_UNITS.sub(lambda match: match[1] + ','.join(units_row(in_si)).encode(), content)
+    if units_of(said) != in_si:
+        raise Refused(3, 'case #units', 'units', 'case #units: this row has to stand alone in its line, without quotes')
+    return said
 
 
 def case_rows(case: Case) -> Iterator[list[str]]:

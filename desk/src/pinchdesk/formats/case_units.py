@@ -6,7 +6,7 @@ from __future__ import annotations
 
 import re
 from collections.abc import Sequence
-from dataclasses import dataclass
+from dataclasses import dataclass, replace
 from fractions import Fraction
 
 from ..text import plain, read_again
@@ -17,7 +17,6 @@ TEMPERATURES = {'°C': (Fraction(1), Fraction(0)), 'K': (Fraction(1), Fraction('
                 '°F': (Fraction(9, 5), Fraction(32)), '°R': (Fraction(9, 5), Fraction('491.67'))}
 DIFFERENCES = {'°C': 'K', 'K': 'K', '°F': '°F', '°R': '°F'}
 LONGEST = 40
-STEPS = (1, 10, 100)
 
 
 @dataclass(frozen=True)
@@ -28,9 +27,17 @@ class CaseUnits:
     temperature: str = '°C'
     heat: str = 'kW'
     watts: Fraction = Fraction(1000)
-    steps: int = 10
+    steps: Fraction = Fraction(10)
     zero: Fraction = Fraction(0)
     parts: Fraction = Fraction(1000)
+
+    @property
+    def si(self) -> CaseUnits:
+        """The same numbers of a case, said in °C and kW."""
+        degrees, at_zero = TEMPERATURES[self.temperature]
+        usual = CaseUnits()
+        return replace(usual, steps=self.steps * degrees, zero=(self.zero - at_zero) / degrees,
+                       parts=self.parts * usual.watts / self.watts)
 
     @property
     def difference(self) -> str:
@@ -54,6 +61,14 @@ class CaseUnits:
 
     def shown_flow(self, number: int | Fraction) -> Fraction:
         return Fraction(number) * self.steps / self.parts
+
+    def in_tenths(self, number: int | Fraction) -> Fraction:
+        """A temperature of the case in tenths of °C."""
+        return self.si.shown_temperature(number) * 10
+
+    def in_tenths_between(self, number: int | Fraction) -> Fraction:
+        """A difference of the case in tenths of a kelvin."""
+        return self.si.shown_difference(number) * 10
 
     def of_tenths(self, tenths: Fraction) -> Fraction:
         """A temperature in tenths of °C as the case has it."""
@@ -84,12 +99,13 @@ def read_units(row: Sequence[str]) -> CaseUnits:
         raise ValueError(f'`{temperature[:LONGEST]}` is not a unit of temperatures: {", ".join(TEMPERATURES)}')
     if not re.fullmatch(r'[^\s,][^,]{0,39}', name):
         raise ValueError(f'`{name[:LONGEST]}` is not a unit of heats')
-    numbers = [exact(text, LONGEST) for text in (watts, zero, parts)]
-    if not steps.isascii() or not steps.isdigit() or int(steps[:4]) not in STEPS or min(numbers[0], numbers[2]) <= 0:
-        raise ValueError('a degree has 1, 10 or 100 steps, and a unit of heats is above 0')
-    return CaseUnits(temperature, name, numbers[0], int(steps), numbers[1], numbers[2])
+    numbers = [exact(text, LONGEST) for text in (watts, steps, zero, parts)]
+    if min(numbers[0], numbers[1], numbers[3]) <= 0:
+        raise ValueError('a unit of heats, its parts and the steps of a degree are above 0')
+    return CaseUnits(temperature, name, *numbers)
 
 
 def units_row(units: CaseUnits) -> list[str]:
+    """The row `#units` that says these."""
     return ['#units', units.temperature, plain(units.heat), str(units.watts), str(units.steps), str(units.zero),
             str(units.parts)]

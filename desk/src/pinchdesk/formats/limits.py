@@ -55,13 +55,14 @@ def outside(what: str, limit: Limit, scale: Fraction) -> str:
     return f'{what} is outside its limits, {limit.told(scale)}'
 
 
-def outside_of_row(row: Sequence[str]) -> str:
-    """What is said of the number of a row of a case that is outside its limits, in the program's unit; empty where
-    there is none."""
+def outside_of_row(row: Sequence[str], own_units: bool = False) -> str:
+    """What is said of the number of a row of a case that is outside its limits, in the program's unit, or in numbers of
+    a case in units of its own; empty where there is none."""
     for (name, limit), text in zip(FIELDS.get(row[0] if row else '', ()), row[2:]):
         latent = name == 'CP' and len(row) > 5 and row[5]
         if re.fullmatch('-?[0-9]{1,13}', text) and not limit.holds(int(text)) and not latent:
-            return f'the {name} {text} is outside its limits, {limit.least} to {limit.most} (in {limit.program})'
+            unit = 'the numbers of the case' if own_units else limit.program
+            return f'the {name} {text} is outside its limits, {limit.least} to {limit.most} (in {unit})'
     return ''
 
 

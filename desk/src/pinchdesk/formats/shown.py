@@ -5,7 +5,7 @@ The program's numbers are exact, and are rounded here alone, half away from 0. A
 that many times the heats of the plant: they are divided again."""
 from __future__ import annotations
 
-from dataclasses import dataclass
+from dataclasses import dataclass, replace
 from fractions import Fraction
 from math import ceil
 
@@ -38,6 +38,11 @@ def is_rounded(value: Number, places: int) -> bool:
     return in_last_place.denominator != 1
 
 
+def digits(number: Fraction, usual: int) -> int:
+    """How many more decimals than usual one of so many parts needs: none of 1000 where 3 are usual."""
+    return max(0, len(str(ceil(number) - 1)) - usual)
+
+
 @dataclass(frozen=True)
 class Shown:
     """Shows the numbers of a case with this basis. All arguments are in the program's units."""
@@ -49,13 +54,33 @@ class Shown:
         """The units of the case; those of a case that says none are °C and kW."""
         return self.basis.units or CaseUnits()
 
+    @property
+    def si(self) -> Shown:
+        """Shows the same numbers in °C and kW."""
+        return replace(self, basis=replace(self.basis, units=self.units.si)) if self.basis.units else self
+
+    def in_temperature(self, number: Number) -> Fraction:
+        """A temperature in the unit of the case, exact."""
+        return self.units.shown_temperature(number)
+
+    def in_difference(self, number: Number) -> Fraction:
+        return self.units.shown_difference(number)
+
+    def in_heat(self, number: Number) -> Fraction:
+        """A heat in the unit of the case, divided by the scale, exact."""
+        return self.units.shown_heat(Fraction(number) / self.basis.scale)
+
+    def in_flow(self, number: Number) -> Fraction:
+        return self.units.shown_flow(Fraction(number) / self.basis.scale)
+
     def temperature(self, number: Number, places: int = 2) -> str:
-        """A temperature in the unit of the case."""
-        return decimal(self.units.shown_temperature(number), places)
+        """A temperature in the unit of the case. Numbers have more decimals where the steps of the case are finer than
+        hundredths of a degree, or its parts than watts of a kW."""
+        return decimal(self.in_temperature(number), places + digits(self.units.steps, 2))
 
     def difference(self, number: Number, places: int = 2) -> str:
         """A difference of temperatures in the unit of the case."""
-        return decimal(self.units.shown_difference(number), places)
+        return decimal(self.in_difference(number), places + digits(self.units.steps, 2))
 
     def with_degrees(self, difference: Number) -> str:
         """A difference of temperatures with its unit beside it."""
@@ -67,37 +92,40 @@ class Shown:
 
     def heat(self, number: Number, places: int = 3) -> str:
         """A heat in the unit of the case, divided by the scale."""
-        return decimal(self.units.shown_heat(Fraction(number) / self.basis.scale), places)
+        return decimal(self.in_heat(number), places + digits(self.units.parts, 3))
 
     def flow(self, number: Number, places: int = 4) -> str:
         """A CP in the unit of the case, divided by the scale."""
-        return decimal(self.units.shown_flow(Fraction(number) / self.basis.scale), places)
+        return decimal(self.in_flow(number), places + self.finer_flow)
+
+    def kelvin(self, kelvin: Number, places: int = 2) -> str:
+        """A difference in K in the unit of the case."""
+        return self.difference(self.units.of_tenths_between(Fraction(kelvin) * 10), places)
+
+    def watts(self, watts: Number, places: int = 3) -> str:
+        """A heat of the plant in W in the unit of the case."""
+        return self.heat(self.units.of_watts(Fraction(watts)) * self.basis.scale, places)
+
+    @property
+    def finer_flow(self) -> int:
+        """How many more decimals CPs have than those in kW/K."""
+        return digits(self.units.parts / self.units.steps, 2)
+
+    @property
+    def temperature_unit(self) -> str:
+        return self.units.temperature
+
+    @property
+    def difference_unit(self) -> str:
+        return self.units.difference
 
     @property
     def heat_unit(self) -> str:
         return printable(self.units.heat)
 
     @property
-    def temperature_unit(self) -> str:
-        return self.units.temperature
-
-    def celsius(self, tenths: Number, places: int = 2) -> str:
-        """A temperature in °C; a difference in K is shown by the same."""
-        return decimal(Fraction(tenths) / 10, places)
-
-    def kilowatts(self, watts: Number, places: int = 3) -> str:
-        """A heat in kW, divided by the scale."""
-        return decimal(self.in_kilowatts(watts), places)
-
-    def in_kilowatts(self, watts: Number) -> Fraction:
-        return Fraction(watts) / self.basis.scale / 1000
-
-    def kilowatts_per_kelvin(self, cp: Number, places: int = 4) -> str:
-        """A CP in kW/K, divided by the scale."""
-        return decimal(self.in_kilowatts_per_kelvin(cp), places)
-
-    def in_kilowatts_per_kelvin(self, cp: Number) -> Fraction:
-        return Fraction(cp) / self.basis.scale / 100
+    def flow_unit(self) -> str:
+        return printable(self.units.flow)
 
     def price(self, price: Number) -> str:
         """A price in the unit of `price_unit`."""
@@ -108,7 +136,13 @@ class Shown:
         return decimal(self.in_cost(cost), 3)
 
     def in_cost(self, cost: Number) -> Fraction:
-        return Fraction(cost) / self.basis.cost_divisor / self.basis.scale
+        return Fraction(cost) / self.cost_divisor / self.basis.scale
+
+    @property
+    def cost_divisor(self) -> Fraction:
+        """What divides the costs of the case; where it says no unit they are made of W, whatever units it has."""
+        units = self.units if not self.basis.cost_unit else CaseUnits()
+        return self.basis.cost_divisor * units.parts / units.watts
 
     def with_unit(self, cost: Number) -> str:
         """A cost with its unit beside it."""
@@ -116,16 +150,21 @@ class Shown:
 
     def in_program(self, cost: Fraction) -> Fraction:
         """A cost in the unit of `cost_unit`, as the program has it."""
-        return cost * self.basis.cost_divisor * self.basis.scale
+        return cost * self.cost_divisor * self.basis.scale
 
     def scale_remarks(self) -> list[str]:
         """What stands with numbers of the case as the program has them, where these are not the plant's."""
+        if self.basis.units:
+            return [f'duties and sizes are those of the case: 1 is {self.heat(1)} {self.heat_unit}, or {self.flow(1)} '
+                    f'{self.flow_unit}']
         return [f'duties and sizes are {self.basis.scale} times the plant\'s, as in the case'] \
             if self.basis.scale != 1 else []
 
     @property
     def price_unit(self) -> str:
-        return printable(self.basis.price_unit) or ('per W' if self.basis.units is None else f'per {self.heat_unit}')
+        """The unit of prices; that of a case without one is of one of the heats that its costs are made of."""
+        _, times, heat = self.cost_unit.partition('price times ')
+        return printable(self.basis.price_unit) or (f'per {heat}' if times else 'per W')
 
     @property
     def cost_unit(self) -> str:

@@ -33,8 +33,8 @@ class ExactBalance:
 
 
 def balance_of(verdict: Accepted, shown: Shown) -> ExactBalance:
-    return ExactBalance(shown.in_kilowatts(verdict.hot), shown.in_kilowatts(verdict.cold),
-                        shown.in_kilowatts(verdict.excess), shown.in_cost(verdict.cost), shown.in_cost(verdict.floor))
+    return ExactBalance(shown.si.in_heat(verdict.hot), shown.si.in_heat(verdict.cold),
+                        shown.si.in_heat(verdict.excess), shown.in_cost(verdict.cost), shown.in_cost(verdict.floor))
 
 
 @dataclass(frozen=True, kw_only=True)
@@ -167,6 +167,6 @@ class PlantRest(PlantAnswer):
 def plant_rest(rest: Rest) -> PlantRest:
     shown, case = Shown(rest.followed.case.basis), written_case(rest)
     heats: list[Number] = [rest.hot_used, rest.cold_used, *rest.excess]
-    exact = ExactRest(*map(shown.in_kilowatts, heats)) if isinstance(rest.verdict, Accepted) else None
+    exact = ExactRest(*map(shown.si.in_heat, heats)) if isinstance(rest.verdict, Accepted) else None
     return PlantRest(sheets=tuple(rest_sheets(rest)), notes=tuple(rounding_notes(rest)), exact=exact, case=case,
                      good=rest.good, text='' if case is None else print_case(case))

@@ -47,8 +47,8 @@ class PlantTargets(PlantAnswer):
 
 def plant_targets(case: Case, targets: Targets) -> PlantTargets:
     shown = Shown(case.basis)
-    exact = ExactTargets(shown.in_kilowatts(targets.hot), shown.in_kilowatts(targets.cold),
-                         tuple(Fraction(pinch, 10) for pinch in targets.pinches))
+    exact = ExactTargets(shown.si.in_heat(targets.hot), shown.si.in_heat(targets.cold),
+                         tuple(map(shown.si.in_temperature, targets.pinches)))
     return PlantTargets(sheets=tuple(targets_sheets(case, targets)), text=targets.text, exact=exact)
 
 
@@ -84,7 +84,7 @@ class PlantFlow(PlantAnswer):
 def plant_flow(case: Case, flow: HeatFlow | Cut) -> PlantFlow:
     shown = Shown(case.basis)
     exact = ExactFlow(None, {}) if isinstance(flow, Cut) else \
-        ExactFlow(shown.in_cost(flow.cost), {use.name: shown.in_kilowatts(use.heat) for use in flow.uses})
+        ExactFlow(shown.in_cost(flow.cost), {use.name: shown.si.in_heat(use.heat) for use in flow.uses})
     return PlantFlow(sheets=tuple(flow_sheets(case, flow)), text=flow.text, exact=exact, cost_unit=shown.cost_unit)
 
 
@@ -139,7 +139,7 @@ class PlantSweep(PlantAnswer):
 def plant_sweep(case: Case, sweep: Sweep, base: SweepRow | None) -> PlantSweep:
     shown = Shown(case.basis)
     points = tuple(SweepPoint(ExactPoint(
-        Fraction(point.contribution, 5), shown.in_kilowatts(point.hot), shown.in_kilowatts(point.cold),
+        shown.si.in_difference(2 * point.contribution), shown.si.in_heat(point.hot), shown.si.in_heat(point.cold),
         None if point.cost is None else shown.in_cost(point.cost))) for point in sweep.points)
     return PlantSweep(sheets=tuple(sweep_sheets(case, sweep, base)), text=sweep.text, points=points,
                       cost_unit=shown.cost_unit, case=case, sweep=sweep)

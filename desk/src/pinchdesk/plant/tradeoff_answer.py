@@ -123,8 +123,8 @@ def plant_what_if(answered: WhatIf, notes: tuple[str, ...]) -> PlantWhatIf:
     outcomes = {outcome.variant.name: outcome for outcome in (answered.base, *answered.outcomes)}
     targets = {name: outcome.targets for name, outcome in outcomes.items()}
     exact = ExactScenarios(
-        {name: shown.in_kilowatts(printed.hot) if printed else None for name, printed in targets.items()},
-        {name: shown.in_kilowatts(printed.cold) if printed else None for name, printed in targets.items()},
+        {name: shown.si.in_heat(printed.hot) if printed else None for name, printed in targets.items()},
+        {name: shown.si.in_heat(printed.cold) if printed else None for name, printed in targets.items()},
         {name: None if outcome.cost is None else shown.in_cost(outcome.cost) for name, outcome in outcomes.items()})
     return PlantWhatIf(sheets=tuple(what_if_sheets(answered)), notes=(*notes, *rounding_notes(answered)), exact=exact,
                        cases={name: outcome.case for name, outcome in outcomes.items()},

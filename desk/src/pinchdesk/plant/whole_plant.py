@@ -18,7 +18,7 @@ from ..analysis.sweep_request import as_it_is, asked_range, check_workers
 from ..analysis.what_if import AskedCase, compared
 from ..errors import Refused, WordsError, about, of_file
 from ..formats.amounts import seconds_of
-from ..formats.case import Case, completed, read_case
+from ..formats.case import Case, completed, read_case, said_in_si, units_of
 from ..formats.plain_files import read_bytes
 from ..formats.shown import Shown
 from ..program.answers import Curves, Cut, HeatFlow, Targets
@@ -96,6 +96,10 @@ class Plant:
     def _repr_html_(self) -> str:
         return PlantAnswer(sheets=(case_streams(self.completed),), notes=self.notes)._repr_html_()
 
+    def in_si(self) -> Plant:
+        """The plant shown in °C and kW, where its case has units of its own."""
+        return replace(self, text=said_in_si(self.text.encode()).decode())
+
     def targets(self) -> PlantTargets:
         """The least hot and cold utility, and the pinches."""
         return self.noted(plant_targets(self.completed, self.asked_targets))
@@ -106,7 +110,7 @@ class Plant:
 
     def sweep(self, first: Number, last: Number, step: Number, workers: int = USUAL_WORKERS) -> PlantSweep:
         """Targets and least cost at each least difference from the first to the last one, in K."""
-        asked = asked_range(as_text(first), as_text(last), as_text(step), workers)
+        asked = asked_range(as_text(first), as_text(last), as_text(step), workers, self.case.basis.units)
         printed = self.pinch.sweep(self.text, *asked, workers)
         return self.noted(plant_sweep(self.completed, printed, as_it_is(self.pinch, self.text, self.completed)))
 
@@ -229,7 +233,7 @@ class Plant:
 
 def read(source: str | os.PathLike[str] | bytes, name: str = '', *, difference: Number | None = None,
          sheet: str | None = None, separator: str | None = None, decimal: str | None = None, scale: Number = 1,
-         hours: Number | None = None, tolerance: Number = 0) -> Plant:
+         hours: Number | None = None, tolerance: Number = 0, units: str = 'SI') -> Plant:
     """A plant from the file of its table (.xlsx, or text with separators), or from a case file; of bytes `name` is what
     the file is called. The options are those of the word `case`. `Refused` where something is not understood, or is
     ambiguous."""
@@ -242,10 +246,12 @@ def read(source: str | os.PathLike[str] | bytes, name: str = '', *, difference: 
     if is_case(content):
         options = [option for option in (difference, sheet, separator, decimal, hours) if option is not None]
         if options or asked.scale != 1 or asked.tolerance:
-            raise Refused(3, '', 'a case already', 'this is a case already, in tenths of °C, 10 W/K and W, and options '
-                          'are of tables. If it is a table in °C, give it headings', path)
-        plant = Plant(path, content.decode('utf-8', 'replace'), ('read as a case file, in tenths of °C, 10 W/K and W',))
+            raise Refused(3, '', 'a case already', 'this is a case already, in the program\'s numbers, and options are '
+                          'of tables. If it is a table in °C, give it headings', path)
+        own = units_of(content)
+        said = f'in its own units, {own.temperature} and {own.heat}' if own else 'in tenths of °C, 10 W/K and W'
+        plant = Plant(path, content.decode('utf-8', 'replace'), (f'read as a case file, {said}',))
         return plant if plant.asked_targets else plant
     pinch = Pinch()
-    table = converted(pinch, TextFile(path, content), asked)
+    table = converted(pinch, TextFile(path, content), replace(asked, own_units=units == 'table'))
     return Plant(path, case_text(table), table.notes, pinch)

@@ -13,7 +13,7 @@ from pathlib import Path
 from typing import TypeVar
 
 from ..errors import ProgramError, Refused, WordsError
-from ..formats.case import Case, print_case, records
+from ..formats.case import Case, print_case, records, units_of
 from ..formats.limits import outside_of_row
 from ..formats.network import Network, print_network
 from ..formats.study import Study, print_study, read_study
@@ -146,7 +146,7 @@ def named(fault: Exception, case: bytes) -> Exception:
     """A refusal of a case with the number that is outside its limits."""
     if isinstance(fault, Refused) and fault.cause == 'OutOfRange' and fault.place.startswith('case row '):
         row = dict(records(case)).get(int(fault.place.split()[-1]), [])
-        said = outside_of_row(row)
+        said = outside_of_row(row, units_of(case) is not None)
         return Refused(fault.answered, fault.place, fault.cause, f'{fault.text}: {said}' if said else fault.text)
     return fault
 

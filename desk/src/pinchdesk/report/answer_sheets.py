@@ -20,14 +20,6 @@ from .sheet import Cell, Sheet
 NO_FLOW = 'no heat flow'
 
 
-def celsius(shown: Shown, tenths: Number) -> Decimal:
-    return Decimal(shown.celsius(tenths))
-
-
-def kilowatts(shown: Shown, watts: Number) -> Decimal:
-    return Decimal(shown.kilowatts(watts))
-
-
 def temperature(shown: Shown, number: Number) -> Decimal:
     """A temperature in the unit of the case."""
     return Decimal(shown.temperature(number))
@@ -166,11 +158,11 @@ def balance_facts(verdict: Accepted, shown: Shown) -> FactRow:
     """The balance of an accepted network and its cost, beside which the floor stands."""
     unit = shown.cost_unit
     return (*utility_facts(verdict, shown),
-            Fact('excess over the hot target', heat_of(shown, verdict.excess), 'kW'),
+            Fact('excess over the hot target', heat_of(shown, verdict.excess), shown.heat_unit),
             Fact('cost', cost(shown, verdict.cost), unit),
             Fact('floor: no network costs less', cost(shown, verdict.floor), unit),
             Fact('cost above the floor', cost(shown, verdict.cost - verdict.floor), unit),
-            Fact('reference place, shifted', temperature(shown, verdict.place), '°C'))
+            Fact('reference place, shifted', temperature(shown, verdict.place), shown.temperature_unit))
 
 
 def balance_sheet(verdict: Accepted, shown: Shown, unfinished: str = '') -> Sheet:
@@ -187,7 +179,7 @@ def penalties_sheet(verdict: Accepted, shown: Shown) -> Sheet:
         return Sheet('Penalties are too fine', (), ((penalties_told(verdict.too_fine),),))
     rows = tuple((str(penalty.place), heat_of(shown, penalty.heat)) for penalty in verdict.penalties if penalty.heat)
     title = 'Penalties: where it loses heat' if rows else 'No penalty: it loses no heat'
-    return Sheet(title, ('', 'kW') if rows else (), rows)
+    return Sheet(title, ('', shown.heat_unit) if rows else (), rows)
 
 
 def sweep_table(case: Case, sweep: Sweep, base: SweepRow | None = None) -> FactTable:
@@ -198,9 +190,11 @@ def sweep_table(case: Case, sweep: Sweep, base: SweepRow | None = None) -> FactT
     for point in (*([base] if base else []), *sweep.points):
         as_it_is = point is base or not own and point.contribution == case.contribution
         least: Cell = NO_FLOW if point.cost is None else cost(shown, point.cost)
-        approach: Cell = 'its own' if point is base else celsius(shown, 2 * point.contribution)
-        rows.append((Fact('least difference', approach, 'K'), Fact('hot', kilowatts(shown, point.hot), 'kW'),
-                     Fact('cold', kilowatts(shown, point.cold), 'kW'), Fact('least cost', least, shown.cost_unit),
+        approach: Cell = 'its own' if point is base else Decimal(shown.difference(2 * point.contribution))
+        rows.append((Fact('least difference', approach, shown.difference_unit),
+                     Fact('hot', heat_of(shown, point.hot), shown.heat_unit),
+                     Fact('cold', heat_of(shown, point.cold), shown.heat_unit),
+                     Fact('least cost', least, shown.cost_unit),
                      Fact('remark', 'the case as it is' if as_it_is else '')))
     title = f'Sweep: the contributions of their own of {", ".join(own)} are replaced' if own else 'Sweep'
     return FactTable(title, tuple(rows))
@@ -223,7 +217,7 @@ def prices_tables(case: Case, prices: Prices) -> list[FactTable]:
             segments.extend(span_rows(answer, shown))
     price, costs = shown.price_unit, shown.cost_unit
     columns = ('utility', f'from {price}', f'to {price}', f'cost at the first {costs}', f'cost at the last {costs}',
-               'slope kW')
+               f'slope {shown.heat_unit}')
     tables = [FactTable('Scenarios', tuple(scenarios)), FactTable('Spans', tuple(segments), columns=columns)]
     return [table for table in tables if table.rows]
 
@@ -241,7 +235,7 @@ def span_rows(span: SpanAnswer, shown: Shown) -> list[FactRow]:
              Fact('to', Decimal(shown.price(segment.last)), price_unit),
              Fact('cost at the first', cost(shown, segment.cost(segment.first)), cost_unit),
              Fact('cost at the last', cost(shown, segment.cost(segment.last)), cost_unit),
-             Fact('slope', kilowatts(shown, segment.slope), 'kW')) for segment in span.segments]
+             Fact('slope', heat_of(shown, segment.slope), shown.heat_unit)) for segment in span.segments]
 
 
 def site_facts(answer: SiteAnswer, basis: Basis) -> FactRow:
@@ -249,16 +243,17 @@ def site_facts(answer: SiteAnswer, basis: Basis) -> FactRow:
     if answer.boiler is None or answer.cooling is None:
         return ()
     shown = Shown(basis)
-    return (Fact('boiler', kilowatts(shown, answer.boiler), 'kW'),
-            Fact('cooling', kilowatts(shown, answer.cooling), 'kW'))
+    return (Fact('boiler', heat_of(shown, answer.boiler), shown.heat_unit),
+            Fact('cooling', heat_of(shown, answer.cooling), shown.heat_unit))
 
 
 def site_tables(answer: SiteAnswer, basis: Basis) -> list[FactTable]:
     """The profiles of a site, and what cannot be served."""
     shown = Shown(basis)
-    rows = tuple((Fact('shifted', celsius(shown, profile.temperature), '°C'),
-                  Fact('to give below it', kilowatts(shown, profile.source), 'kW'),
-                  Fact('to take above it', kilowatts(shown, profile.sink), 'kW')) for profile in answer.profiles)
+    rows = tuple((Fact('shifted', temperature(shown, profile.temperature), shown.temperature_unit),
+                  Fact('to give below it', heat_of(shown, profile.source), shown.heat_unit),
+                  Fact('to take above it', heat_of(shown, profile.sink), shown.heat_unit))
+                 for profile in answer.profiles)
     return [FactTable('Profiles', rows), *([cut_table(answer.cut, shown)] if answer.cut else [])]
 
 

@@ -3,27 +3,33 @@ from __future__ import annotations
 
 from collections.abc import Callable
 from decimal import Decimal
+from fractions import Fraction
 
 from ..costs.annual import AnnualCost
 from ..costs.areas_beside import AreasBeside
 from ..costs.enclosure import Enclosure
 from ..costs.network_areas import ExchangerArea, NetworkAreas
 from ..costs.network_costs import ExchangerPrice, NetworkCosts
-from ..formats.shown import decimal
+from ..formats.shown import Shown, decimal
 from .cost_sheets import area_target_notes, certain, cost_facts, currency_of, metres, money, notes_sheets
 from .facts import Fact, FactRow, FactTable
 from .sheet import Cell, Sheet
 
 
-def area_facts(exchanger: ExchangerArea) -> FactRow:
+def area_facts(exchanger: ExchangerArea, shown: Shown) -> FactRow:
     """An exchanger with its area and what that is made of."""
     return (Fact('exchanger', exchanger.name), Fact('kind', exchanger.service.value),
-            Fact('duty', Decimal(decimal(exchanger.duty / 1000, 3)), 'kW'),
+            Fact('duty', Decimal(shown.watts(exchanger.duty)), shown.heat_unit),
             Fact('U', None if exchanger.coefficient is None else Decimal(decimal(exchanger.coefficient / 1000, 6)),
                  'kW/m²K'),
-            Fact('mean difference', certain(exchanger.mean, 3), 'K'),
+            Fact('mean difference', certain(in_degrees(exchanger.mean, shown), 3), shown.difference_unit),
             Fact('Ft', certain(exchanger.factor, 4)), Fact('shells', Decimal(exchanger.shells)),
             Fact('area', metres(exchanger.area), 'm²'))
+
+
+def in_degrees(mean: Enclosure, shown: Shown) -> Enclosure:
+    """A mean difference in K in the unit of the case."""
+    return mean * shown.units.shown_difference(shown.units.of_tenths_between(Fraction(10)))
 
 
 def price_facts(priced: ExchangerPrice, currency: str) -> FactRow:
@@ -33,10 +39,11 @@ def price_facts(priced: ExchangerPrice, currency: str) -> FactRow:
 
 def exchangers_table(areas: NetworkAreas, costs: NetworkCosts | None, title: str = 'Exchangers') -> FactTable:
     """The exchangers of a network in their order; the costliest say what 1 K more at both ends would save."""
+    shown = Shown(areas.data.case.basis)
     if costs is None:
-        return FactTable(title, tuple(area_facts(exchanger) for exchanger in areas.exchangers))
+        return FactTable(title, tuple(area_facts(exchanger, shown) for exchanger in areas.exchangers))
     currency = currency_of(costs.data)
-    return FactTable(title, tuple((*area_facts(priced.exchanger), *price_facts(priced, currency))
+    return FactTable(title, tuple((*area_facts(priced.exchanger, shown), *price_facts(priced, currency))
                                   for priced in costs.prices))
 
 

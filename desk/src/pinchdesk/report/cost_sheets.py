@@ -67,7 +67,7 @@ def target_facts(target: CostTarget, least: AreaFloor | None = None) -> FactRow:
     """The targets of a case, with the floor of the area where it was asked for."""
     shells = target.shells
     return (*area_target_facts(target.area),
-            *(floor_facts(least) if least else ()), Fact('units', Decimal(target.units)),
+            *(floor_facts(least, Shown(target.data.case.basis)) if least else ()), Fact('units', Decimal(target.units)),
             *((Fact('1-2 shells', Decimal(shells.shells)), Fact('area in 1-2 shells', metres(shells.area), 'm²'))
               if shells else ()),
             *cost_facts(target.cost, currency_of(target.data)))
@@ -82,12 +82,12 @@ def area_target_notes(target: AreaTarget) -> list[str]:
     return [BOUND if target.bound else NO_BOUND]
 
 
-def floor_facts(least: AreaFloor) -> FactRow:
+def floor_facts(least: AreaFloor, shown: Shown) -> FactRow:
     """The floor, rounded down, and the slices that it was made with."""
     area = Fact('floor: no network has less', Decimal(floor(least.area * 100)).scaleb(-2).normalize() + 0, 'm²')
     if least.slice is None:
         return (area,)
-    return area, Fact('slices of the floor', Decimal(decimal(least.slice, 3)), 'K')
+    return area, Fact('slices of the floor', Decimal(shown.kelvin(least.slice, 3)), shown.difference_unit)
 
 
 def target_notes(target: CostTarget) -> list[str]:
@@ -97,9 +97,10 @@ def target_notes(target: CostTarget) -> list[str]:
 
 def point_facts(point: SupertargetPoint, shown: Shown, currency: str, remark: str = '') -> FactRow:
     shells = (Fact('shells', Decimal(point.shells)),) if point.shells else ()
-    return (Fact('least difference', Decimal(decimal(point.difference, 3)), 'K'),
-            Fact('hot', Decimal(shown.kilowatts(point.hot)), 'kW'),
-            Fact('cold', Decimal(shown.kilowatts(point.cold)), 'kW'), Fact('area', metres(point.area), 'm²'),
+    return (Fact('least difference', Decimal(shown.kelvin(point.difference, 3)), shown.difference_unit),
+            Fact('hot', Decimal(shown.heat(point.hot)), shown.heat_unit),
+            Fact('cold', Decimal(shown.heat(point.cold)), shown.heat_unit),
+            Fact('area', metres(point.area), 'm²'),
             Fact('units', Decimal(point.units)), *shells, *cost_facts(point.cost, currency), Fact('remark', remark))
 
 
@@ -121,12 +122,12 @@ def remark_of(point: SupertargetPoint, found: Supertarget) -> str:
     return 'within 1 % of the least' if first <= point.difference <= last else ''
 
 
-def least_facts(least: LeastCost, currency: str) -> FactRow:
-    first, last = least.flat
+def least_facts(least: LeastCost, currency: str, shown: Shown) -> FactRow:
+    (first, last), unit = least.flat, shown.difference_unit
     return (Fact('energy', {0: 'as it is', -1: 'a fifth cheaper', 1: 'a fifth dearer'}[sign(least.factor - 1)]),
-            Fact('least difference', Decimal(decimal(least.point.difference, 2)), 'K'),
+            Fact('least difference', Decimal(shown.kelvin(least.point.difference)), unit),
             Fact('annual cost', money(least.annual), f'{currency}/a'),
-            Fact('within 1 % from', Decimal(decimal(first, 2)), 'K'), Fact('to', Decimal(decimal(last, 2)), 'K'))
+            Fact('within 1 % from', Decimal(shown.kelvin(first)), unit), Fact('to', Decimal(shown.kelvin(last)), unit))
 
 
 def sign(number: Fraction) -> int:
@@ -135,14 +136,15 @@ def sign(number: Fraction) -> int:
 
 def least_table(found: Supertarget) -> FactTable:
     """The least with energy as it is, cheaper and dearer."""
-    currency = currency_of(found.data)
-    return FactTable('Where the cost is least', tuple(least_facts(least, currency)
+    currency, shown = currency_of(found.data), Shown(found.data.case.basis)
+    return FactTable('Where the cost is least', tuple(least_facts(least, currency, shown)
                                                       for least in (found.least, found.cheaper, found.dearer)))
 
 
 def supertarget_notes(found: Supertarget) -> list[str]:
     """The differences without a cost, and how units were counted."""
-    notes = [f'{decimal(difference, 2)} K: {why}' for difference, why in found.without]
+    shown = Shown(found.data.case.basis)
+    notes = [f'{shown.kelvin(difference)} {shown.difference_unit}: {why}' for difference, why in found.without]
     if not found.by_sets:
         notes.append('units are sources less one on each side of the pinch: there are too many sources for sets')
     return notes

@@ -21,13 +21,16 @@ from ..program.verdicts import Accepted, Place, PlaceKind, Rejected, Verdict
 from .facts import Fact, FactRow
 from .sheet import Cell, Sheet
 
-HEADINGS = ('exchanger', 'hot', 'hot branch', 'cold', 'cold branch', 'duty kW', 'hot in °C', 'hot out °C', 'cold in °C',
-            'cold out °C', 'least K', 'needed K', 'kW/K', 'pinch', 'across kW', 'penalty kW')
+
+def headings_of(shown: Shown) -> tuple[str, ...]:
+    degree, difference, heat = shown.temperature_unit, shown.difference_unit, shown.heat_unit
+    ends = (f'{side} {way} {degree}' for side in ('hot', 'cold') for way in ('in', 'out'))
+    return ('exchanger', 'hot', 'hot branch', 'cold', 'cold branch', f'duty {heat}', *ends, f'least {difference}',
+            f'needed {difference}', shown.flow_unit, 'pinch', f'across {heat}', f'penalty {heat}')
 
 
-def mean_difference(passage: Passage) -> Decimal | None:
-    """The logarithmic mean of the differences at both ends, in K; None where an end has none, or a level is
-    invented."""
+def mean_difference(passage: Passage, shown: Shown) -> Decimal | None:
+    """The logarithmic mean of the differences at both ends; None where an end has none, or a level is invented."""
     first, second = passage.hot_end, passage.cold_end
     if is_invented(passage.hot) or is_invented(passage.cold):
         return None
@@ -35,7 +38,8 @@ def mean_difference(passage: Passage) -> Decimal | None:
         return None
     with localcontext() as context:
         context.prec = 50
-        at_hot, at_cold = (Decimal(end.numerator) / Decimal(end.denominator) / 10 for end in (first, second))
+        at_hot, at_cold = (Decimal(end.numerator) / Decimal(end.denominator)
+                           for end in map(shown.in_difference, (first, second)))
         # Where both are nearly one the quotient of differences says nothing.
         if abs(at_hot - at_cold) <= at_hot * Decimal('1e-12'):
             return at_hot
@@ -48,14 +52,19 @@ def is_invented(side: SideState) -> bool:
 
 
 def conductance(passage: Passage, shown: Shown) -> Decimal | None:
-    """Duty over mean difference, in kW/K: the overall coefficient times the area."""
+    """Duty over mean difference: the overall coefficient times the area."""
     if len(passage.parts) > 1:
         sizes = [conductance(part, shown) for part in passage.parts]
         known = [size for size in sizes if size is not None]
         return sum(known, Decimal(0)) if len(known) == len(sizes) else None
-    mean = mean_difference(passage)
-    duty = shown.in_kilowatts(passage.exchanger.duty)
+    mean = mean_difference(passage, shown)
+    duty = shown.in_heat(passage.exchanger.duty)
     return None if mean is None else Decimal(duty.numerator) / Decimal(duty.denominator) / mean
+
+
+def rounded(size: Decimal, shown: Shown) -> Decimal:
+    """A duty over a mean difference as it is shown."""
+    return size.quantize(Decimal(1).scaleb(-3 - shown.finer_flow))
 
 
 def branch_of(side: object, passage: Passage) -> str:
@@ -65,7 +74,7 @@ def branch_of(side: object, passage: Passage) -> str:
 
 
 def temperatures(passage: Passage, shown: Shown) -> list[Cell]:
-    return [None if end is None or is_invented(side) else Decimal(shown.celsius(end))
+    return [None if end is None or is_invented(side) else Decimal(shown.temperature(end))
             for side in (passage.hot, passage.cold) for end in (side.inlet, side.outlet)]
 
 
@@ -77,7 +86,7 @@ def sides(passage: Passage, pinches: tuple[PinchPoint, ...]) -> str:
 def crossing(passage: Passage, pinches: tuple[PinchPoint, ...], shown: Shown) -> Cell:
     """What is carried down across the pinches, of the one across which it is most."""
     heats = [heat for heat in map(passage.crossing, pinches) if heat]
-    return Decimal(shown.kilowatts(max(heats, key=abs))) if heats else None
+    return Decimal(shown.heat(max(heats, key=abs))) if heats else None
 
 
 def row_of(passage: Passage, pinches: tuple[PinchPoint, ...], verdict: Verdict, shown: Shown) -> tuple[Cell, ...]:
@@ -85,11 +94,11 @@ def row_of(passage: Passage, pinches: tuple[PinchPoint, ...], verdict: Verdict, 
     invented = is_invented(passage.hot) or is_invented(passage.cold)
     lost = penalty_of(passage, verdict)
     return (passage.exchanger.name, passage.hot.source.name, branch_of('hot', passage), passage.cold.source.name,
-            branch_of('cold', passage), Decimal(shown.kilowatts(passage.exchanger.duty)), *temperatures(passage, shown),
-            None if least is None or invented else Decimal(shown.celsius(least)),
-            Decimal(shown.celsius(passage.approach)),
-            size.quantize(Decimal('0.001')) if size is not None else None, sides(passage, pinches),
-            crossing(passage, pinches, shown), Decimal(shown.kilowatts(lost)) if lost is not None else None)
+            branch_of('cold', passage), Decimal(shown.heat(passage.exchanger.duty)), *temperatures(passage, shown),
+            None if least is None or invented else Decimal(shown.difference(least)),
+            Decimal(shown.difference(passage.approach)),
+            rounded(size, shown) if size is not None else None, sides(passage, pinches),
+            crossing(passage, pinches, shown), Decimal(shown.heat(lost)) if lost is not None else None)
 
 
 def penalty_of(passage: Passage, verdict: Verdict) -> Fraction | None:
@@ -108,7 +117,7 @@ def exchangers_sheet(followed: Followed, pinches: tuple[PinchPoint, ...], verdic
     rows = tuple(row_of(passage, pinches, verdict, shown) for passage in passages)
     finding = finding_of(followed, verdict, shown) if isinstance(verdict, Rejected) else None
     marked = frozenset(at for at, passage in enumerate(passages) if finding and is_at(passage, finding, verdict))
-    return with_fault(Sheet('Exchangers', HEADINGS, rows, marked), finding)
+    return with_fault(Sheet('Exchangers', headings_of(shown), rows, marked), finding)
 
 
 def with_fault(sheet: Sheet, finding: Finding | None) -> Sheet:
@@ -135,7 +144,9 @@ def streams_sheet(followed: Followed, verdict: Verdict) -> Sheet:
     rows = tuple(stream_row(stream, plant.ends[stream.name], shown) for stream in streams)
     marked = frozenset(at for at, stream in enumerate(streams)
                        if finding and finding.stream in [part.name for part in parts_of(stream)])
-    headings = ('stream', 'side', 'supply °C', 'target °C', 'reached °C', 'CP kW/K', 'load kW', 'exchanged kW')
+    degree, heat = shown.temperature_unit, shown.heat_unit
+    headings = ('stream', 'side', f'supply {degree}', f'target {degree}', f'reached {degree}', f'CP {shown.flow_unit}',
+                f'load {heat}', f'exchanged {heat}')
     return with_fault(Sheet('Streams', headings, rows, marked), finding)
 
 
@@ -148,19 +159,19 @@ def stream_row(stream: Stream, ends: tuple[StreamEnd, ...], shown: Shown) -> tup
     elif end and end.state is not None:
         part = end.state if stream.side is Side.COLD else 1 - end.state
         exchanged = end.size * part if stream.latent else abs(end.state - stream.supply) * end.size
-    return (stream.name, stream.side.value, Decimal(shown.celsius(stream.supply)),
-            Decimal(shown.celsius(stream.target)),
-            None if reached is None else Decimal(shown.celsius(reached)), flow_of(stream, shown),
-            Decimal(shown.kilowatts(stream.heat)),
-            None if exchanged is None else Decimal(shown.kilowatts(exchanged)))
+    return (stream.name, stream.side.value, Decimal(shown.temperature(stream.supply)),
+            Decimal(shown.temperature(stream.target)),
+            None if reached is None else Decimal(shown.temperature(reached)), flow_of(stream, shown),
+            Decimal(shown.heat(stream.heat)),
+            None if exchanged is None else Decimal(shown.heat(exchanged)))
 
 
 def flow_of(stream: Stream, shown: Shown) -> Cell:
     """The CP of a stream, of one in segments those of all of them; none of a latent one."""
     if isinstance(stream, WholeStream):
-        return ' / '.join('latent' if segment.latent else shown.kilowatts_per_kelvin(segment.cp)
+        return ' / '.join('latent' if segment.latent else shown.flow(segment.cp)
                           for segment in stream.segments)
-    return None if stream.latent else Decimal(shown.kilowatts_per_kelvin(stream.cp))
+    return None if stream.latent else Decimal(shown.flow(stream.cp))
 
 
 def streams_sheets(followed: Followed, verdict: Verdict) -> list[Sheet]:
@@ -179,10 +190,12 @@ def segments_sheets(plant: Joined) -> list[Sheet]:
 def segments_of(streams: Sequence[Stream], shown: Shown) -> list[Sheet]:
     """The segments of each stream that has some."""
     rows: list[tuple[Cell, ...]] = [
-        (stream.name, segment.name, Decimal(shown.celsius(segment.supply)), Decimal(shown.celsius(segment.target)),
-         flow_of(segment, shown), Decimal(shown.kilowatts(segment.heat)))
+        (stream.name, segment.name, Decimal(shown.temperature(segment.supply)),
+         Decimal(shown.temperature(segment.target)), flow_of(segment, shown), Decimal(shown.heat(segment.heat)))
         for stream in streams if isinstance(stream, WholeStream) for segment in stream.segments]
-    headings = ('stream', 'in the program', 'from °C', 'to °C', 'CP kW/K', 'load kW')
+    degree = shown.temperature_unit
+    headings = ('stream', 'in the program', f'from {degree}', f'to {degree}', f'CP {shown.flow_unit}',
+                f'load {shown.heat_unit}')
     return [Sheet('Segments of streams', headings, tuple(rows))] if rows else []
 
 
@@ -204,7 +217,7 @@ def sums_facts(followed: Followed) -> FactRow:
 def utility_sum(followed: Followed, utility: Utility, shown: Shown) -> Fact:
     duties = [exchanger.duty for exchanger in followed.network.exchangers
               if utility.name in (exchanger.hot, exchanger.cold)]
-    return Fact(utility.name, Decimal(shown.kilowatts(sum(duties, Fraction(0)))), 'kW')
+    return Fact(utility.name, Decimal(shown.heat(sum(duties, Fraction(0)))), shown.heat_unit)
 
 
 def exchanger_sums(followed: Followed, shown: Shown) -> FactRow:
@@ -212,9 +225,9 @@ def exchanger_sums(followed: Followed, shown: Shown) -> FactRow:
     duty = sum((exchanger.duty for exchanger in followed.network.exchangers), Fraction(0))
     sizes = [conductance(passage, shown) for passage in joined(followed).followed.passages]
     known = [size for size in sizes if size is not None]
-    sum_of_known = sum(known, Decimal(0)).quantize(Decimal('0.001'))
-    return (Fact(f'{exchanger_count(followed)} exchangers', Decimal(shown.kilowatts(duty)), 'kW'),
-            Fact(f'duty over mean difference of {len(known)} of them', sum_of_known, 'kW/K'))
+    sum_of_known = rounded(sum(known, Decimal(0)), shown)
+    return (Fact(f'{exchanger_count(followed)} exchangers', Decimal(shown.heat(duty)), shown.heat_unit),
+            Fact(f'duty over mean difference of {len(known)} of them', sum_of_known, shown.flow_unit))
 
 
 def verdict_sheet(followed: Followed, verdict: Verdict) -> Sheet:
@@ -226,6 +239,6 @@ def mixes_sheets(followed: Followed, verdict: Verdict) -> list[Sheet]:
     shown = Shown(followed.case.basis)
     penalties = verdict.penalties if isinstance(verdict, Accepted) else ()
     lost = [penalty for penalty in penalties if penalty.place.kind is PlaceKind.LINE and penalty.heat]
-    rows = tuple((str(mix.place), stream_at(followed, mix.place.line), Decimal(shown.kilowatts(mix.heat)))
+    rows = tuple((str(mix.place), stream_at(followed, mix.place.line), Decimal(shown.heat(mix.heat)))
                  for mix in lost)
-    return [Sheet('Mixes that lose heat', ('statement', 'stream', 'penalty kW'), rows)] if rows else []
+    return [Sheet('Mixes that lose heat', ('statement', 'stream', f'penalty {shown.heat_unit}'), rows)] if rows else []

@@ -20,7 +20,7 @@ from ..analysis.unfinished import unfinished_told
 from ..errors import Status, WordsError, about
 from ..formats.case import ANY_HEAT, Case, Side, completed, read_case
 from ..formats.network import read_network
-from ..formats.shown import Shown
+from ..formats.shown import Shown, decimal
 from ..formats.whole_streams import whole_streams
 from ..program.answers import Curves, Cut, HeatFlow, Targets
 from ..program.digests import Digests, digests
@@ -187,11 +187,13 @@ def case_streams(case: Case) -> Sheet:
     shown = Shown(case.basis)
     rows: list[tuple[Cell, ...]] = []
     for stream in whole_streams(case):
-        rows.append((stream.name, stream.side.value, Decimal(shown.celsius(stream.supply)),
-                     Decimal(shown.celsius(stream.target)), flow_of(stream, shown),
-                     Decimal(shown.kilowatts(stream.heat)),
-                     Decimal(shown.celsius(stream.contribution)), 'latent' if stream.latent else ''))
-    headings = ('stream', 'side', 'supply °C', 'target °C', 'CP kW/K', 'load kW', 'contribution K', '')
+        rows.append((stream.name, stream.side.value, Decimal(shown.temperature(stream.supply)),
+                     Decimal(shown.temperature(stream.target)), flow_of(stream, shown),
+                     Decimal(shown.heat(stream.heat)),
+                     Decimal(shown.difference(stream.contribution)), 'latent' if stream.latent else ''))
+    degree, difference, heat = shown.temperature_unit, shown.difference_unit, shown.heat_unit
+    headings = ('stream', 'side', f'supply {degree}', f'target {degree}', f'CP {shown.flow_unit}', f'load {heat}',
+                f'contribution {difference}', '')
     return with_names(Sheet('Streams', headings, tuple(rows)), case)
 
 
@@ -210,17 +212,19 @@ def case_utilities(case: Case, flow: HeatFlow | Cut) -> Sheet:
     rows: list[tuple[Cell, ...]] = []
     for utility in case.utilities:
         used = None if isinstance(flow, Cut) else flow.use(utility.name)
-        most: Cell = 'any' if utility.most >= ANY_HEAT else Decimal(shown.kilowatts(utility.most))
+        most: Cell = 'any' if utility.most >= ANY_HEAT else Decimal(shown.heat(utility.most))
         rows.append((utility.name, 'heater' if utility.side is Side.HOT else 'cooler',
-                     None if utility.invented else Decimal(shown.celsius(utility.level)),
-                     Decimal(shown.kilowatts(utility.least)), most, Decimal(shown.price(utility.price)),
-                     Decimal(shown.celsius(utility.contribution)),
-                     None if used is None else Decimal(shown.kilowatts(used)),
+                     None if utility.invented else Decimal(shown.temperature(utility.level)),
+                     Decimal(shown.heat(utility.least)), most, Decimal(shown.price(utility.price)),
+                     Decimal(shown.difference(utility.contribution)),
+                     None if used is None else Decimal(shown.heat(used)),
                      None if used is None else Decimal(shown.cost(used * utility.price))))
     if not isinstance(flow, Cut):
         rows.append(('least cost', '', None, None, None, None, None, None, Decimal(shown.cost(flow.cost))))
-    headings = ('utility', '', 'level °C', 'least kW', 'most kW', f'price, {shown.price_unit}', 'contribution K',
-                'used kW', f'cost, {shown.cost_unit}')
+    heat = shown.heat_unit
+    headings = ('utility', '', f'level {shown.temperature_unit}', f'least {heat}', f'most {heat}',
+                f'price, {shown.price_unit}', f'contribution {shown.difference_unit}', f'used {heat}',
+                f'cost, {shown.cost_unit}')
     return with_names(Sheet('Utilities, and what a heat flow of least cost uses', headings, tuple(rows)), case)
 
 
@@ -232,8 +236,9 @@ def case_sheets(answered: Answered) -> list[Sheet]:
             *([Sheet('May not exchange heat', ('hot', 'cold'), forbids)] if forbids else [])]
 
 
-COMPARED = ('verdict', 'exchangers', 'hot utility kW', 'cold utility kW', 'excess over the hot target kW', 'cost',
-            'floor: no network costs less', 'cost above the floor', 'sum of the penalties kW')
+HEATS = ('hot utility', 'cold utility', 'excess over the hot target', 'sum of the penalties')
+COSTS = ('cost', 'floor: no network costs less', 'cost above the floor')
+COMPARED = ('verdict', 'exchangers', *HEATS[:3], *COSTS, HEATS[3])
 
 
 def compared(networks: Sequence[Reviewed], shown: Shown) -> Sheet:
@@ -246,13 +251,13 @@ def compared(networks: Sequence[Reviewed], shown: Shown) -> Sheet:
         cells: list[Cell] = [word, count]
         if isinstance(verdict, Accepted):
             lost = sum((penalty.heat for penalty in verdict.penalties), start=verdict.excess * 0)
-            cells += [Decimal(shown.kilowatts(heat)) for heat in (verdict.hot, verdict.cold, verdict.excess)]
+            cells += [Decimal(shown.heat(heat)) for heat in (verdict.hot, verdict.cold, verdict.excess)]
             costs: tuple[Fraction | int, ...] = (verdict.cost, verdict.floor, verdict.cost - verdict.floor)
             cells += [Decimal(shown.cost(cost)) for cost in costs]
-            cells.append('too fine' if verdict.too_fine else Decimal(shown.kilowatts(lost)))
+            cells.append('too fine' if verdict.too_fine else Decimal(shown.heat(lost)))
         columns.append([*cells, *[None] * (len(COMPARED) - len(cells))])
-    unit = shown.cost_unit
-    names = [f'{name}, {unit}' if 'cost' in name else name for name in COMPARED]
+    names = [f'{name}, {shown.cost_unit}' if name in COSTS else f'{name} {shown.heat_unit}' if name in HEATS else name
+             for name in COMPARED]
     rows = tuple((name, *(column[at] for column in columns)) for at, name in enumerate(names))
     return Sheet('Networks side by side', ('', *(network.given.name for network in networks)), rows)
 
@@ -310,7 +315,7 @@ def bars(network: Reviewed) -> list[tuple[str, str, str]]:
     shown = Shown(network.followed.case.basis)
     penalties = [penalty for penalty in network.verdict.penalties if penalty.heat]
     most = max((abs(penalty.heat) for penalty in penalties), default=network.verdict.excess)
-    return [(str(penalty.place), shown.kilowatts(penalty.heat), Shown().celsius(abs(penalty.heat) / most * 1000, 1))
+    return [(str(penalty.place), shown.heat(penalty.heat), decimal(abs(penalty.heat) / most * 100, 1))
             for penalty in penalties]
 
 

@@ -38,18 +38,18 @@ def rest_facts(rest: Rest) -> FactRow:
     shown = Shown(rest.followed.case.basis)
     posed = [part for part in (rest.easier, rest.harder) if part]
     hots, colds = ([part.hot for part in posed] or [Fraction(0)], [part.cold for part in posed] or [Fraction(0)])
-    used, least, most = rest.hot_used, min(hots), max(hots)
+    used, least, most, unit = rest.hot_used, min(hots), max(hots), shown.heat_unit
 
     def heat(low: Fraction, high: Fraction) -> Cell:
-        return between(low, high, lambda watts: shown.kilowatts(watts, 6))
+        return between(low, high, lambda number: shown.heat(number, 6))
     return (Fact('exchangers so far', Decimal(placed_count(rest.followed))),
-            Fact('hot utility that they use', heat(used, used), 'kW'),
-            Fact('hot target of the rest', heat(least, most), 'kW'),
-            Fact('hot target of the whole', heat(Fraction(rest.whole.hot), Fraction(rest.whole.hot)), 'kW'),
-            Fact('the choice costs above it', heat(*rest.excess), f'kW{excess_words(rest)}'),
-            Fact('cold utility that they use', heat(rest.cold_used, rest.cold_used), 'kW'),
-            Fact('cold target of the rest', heat(min(colds), max(colds)), 'kW'),
-            Fact('cold target of the whole', heat(Fraction(rest.whole.cold), Fraction(rest.whole.cold)), 'kW'),
+            Fact('hot utility that they use', heat(used, used), unit),
+            Fact('hot target of the rest', heat(least, most), unit),
+            Fact('hot target of the whole', heat(Fraction(rest.whole.hot), Fraction(rest.whole.hot)), unit),
+            Fact('the choice costs above it', heat(*rest.excess), unit + excess_words(rest)),
+            Fact('cold utility that they use', heat(rest.cold_used, rest.cold_used), unit),
+            Fact('cold target of the rest', heat(min(colds), max(colds)), unit),
+            Fact('cold target of the whole', heat(Fraction(rest.whole.cold), Fraction(rest.whole.cold)), unit),
             *cost_facts(rest, shown))
 
 
@@ -77,18 +77,20 @@ def open_sheet(rest: Rest) -> Sheet:
     shown = Shown(rest.followed.case.basis)
     rows = tuple(open_row(left, shown) for left in rest.left)
     title = 'Open branches' if rows else 'No open branch: every stream is ended'
-    headings = ('stream', 'branch', 'in the rest', 'side', 'CP kW/K', 'from °C', 'to °C', 'left kW')
+    degree = shown.temperature_unit
+    headings = ('stream', 'branch', 'in the rest', 'side', f'CP {shown.flow_unit}', f'from {degree}', f'to {degree}',
+                f'left {shown.heat_unit}')
     return Sheet(title, headings if rows else (), rows)
 
 
 def open_row(left: Left, shown: Shown) -> tuple[Cell, ...]:
     stream = left.stream
-    size = None if stream.latent else Decimal(shown.kilowatts_per_kelvin(left.size, 6))
+    size = None if stream.latent else Decimal(shown.flow(left.size, 6))
     begins = Fraction(stream.supply) if stream.latent else left.state
     ends = Fraction(stream.target) if stream.latent else left.end
     named = left.name if left.heat else 'at its target'
-    return (stream.name, left.branch.name, named, stream.side.value, size, Decimal(shown.celsius(begins, 3)),
-            Decimal(shown.celsius(ends, 3)), Decimal(shown.kilowatts(left.heat)))
+    return (stream.name, left.branch.name, named, stream.side.value, size, Decimal(shown.temperature(begins, 3)),
+            Decimal(shown.temperature(ends, 3)), Decimal(shown.heat(left.heat)))
 
 
 def stands(stream: Stream, pinch: PinchPoint) -> tuple[bool, bool]:
@@ -110,17 +112,19 @@ def pinch_sheets(posed: Posed, rest: Rest) -> list[Sheet]:
                  for stream in posed.case.streams if any(stands(stream, pinch)))
     if not rows:
         return [Sheet('No pinch is left' if not posed.pinches else 'No open branch is at the pinch', (), ())]
-    headings = ('pinch, shifted °C', 'in the rest', 'branch', 'side', 'at °C', 'CP kW/K', 'stands')
+    degree = shown.temperature_unit
+    headings = (f'pinch, shifted {degree}', 'in the rest', 'branch', 'side', f'at {degree}', f'CP {shown.flow_unit}',
+                'stands')
     return [Sheet('Branches at the pinch', headings, rows), counts_sheet(posed, shown)]
 
 
 def pinch_row(posed: Posed, pinch: PinchPoint, stream: Stream, left: Left, shown: Shown) -> tuple[Cell, ...]:
     place = posed.scale.back(pinch.temperature)
     at = place - shifted(left.stream, 0)
-    size = None if stream.latent else Decimal(shown.kilowatts_per_kelvin(stream.cp, 6))
+    size = None if stream.latent else Decimal(shown.flow(stream.cp, 6))
     words = ' '.join(word for word, is_there in zip(SIDES, stands(stream, pinch)) if is_there)
-    return (Decimal(shown.celsius(place)), stream.name, left.branch.name, stream.side.value,
-            Decimal(shown.celsius(at)), size, words)
+    return (Decimal(shown.temperature(place)), stream.name, left.branch.name, stream.side.value,
+            Decimal(shown.temperature(at)), size, words)
 
 
 def counts_sheet(posed: Posed, shown: Shown) -> Sheet:
@@ -133,11 +137,12 @@ def counts_sheet(posed: Posed, shown: Shown) -> Sheet:
             hot, cold = ([stream for stream in there if stream.side is side] for side in (Side.HOT, Side.COLD))
             few = len(hot) > len(cold) if word == 'above' else len(cold) > len(hot)
             if there:
-                place = Decimal(shown.celsius(posed.scale.back(pinch.temperature)))
+                place = Decimal(shown.temperature(posed.scale.back(pinch.temperature)))
                 rows.append((place, word, Decimal(len(hot)), Decimal(len(cold)),
-                             *(Decimal(shown.kilowatts_per_kelvin(sum(stream.cp for stream in side), 6))
+                             *(Decimal(shown.flow(sum(stream.cp for stream in side), 6))
                                for side in (hot, cold)), SPLITS.get((word, few), '')))
-    headings = ('pinch, shifted °C', 'side', 'hot', 'cold', 'hot CP kW/K', 'cold CP kW/K', 'to pair each')
+    headings = (f'pinch, shifted {shown.temperature_unit}', 'side', 'hot', 'cold', f'hot CP {shown.flow_unit}',
+                f'cold CP {shown.flow_unit}', 'to pair each')
     return Sheet('Numbers at the pinch', headings, tuple(rows))
 
 
@@ -148,9 +153,9 @@ def lost_sheets(rest: Rest) -> list[Sheet]:
     shown = Shown(rest.followed.case.basis)
     names = {passage.exchanger.name for passage in placed(rest.followed)}
     lines = len(rest.followed.network.statements)
-    rows = tuple((str(penalty.place), Decimal(shown.kilowatts(penalty.heat))) for penalty in rest.verdict.penalties
+    rows = tuple((str(penalty.place), Decimal(shown.heat(penalty.heat))) for penalty in rest.verdict.penalties
                  if penalty.heat and (penalty.place.name in names or 0 < penalty.place.line <= lines))
-    return [Sheet('Penalties so far', ('', 'kW'), rows)] if rows else []
+    return [Sheet('Penalties so far', ('', shown.heat_unit), rows)] if rows else []
 
 
 def fault_sheets(rest: Rest) -> list[Sheet]:
@@ -184,7 +189,7 @@ def rest_sheets(rest: Rest) -> list[Sheet]:
 def unserved_sheet(posed: Posed, cut: Cut) -> Sheet:
     """The parts of the rest that cannot be served, in the temperatures of the whole."""
     shown = Shown(posed.case.basis)
-    rows = tuple((part.name, *(Decimal(shown.celsius(posed.scale.back(end))) for end in (part.high, part.low)))
+    rows = tuple((part.name, *(Decimal(shown.temperature(posed.scale.back(end))) for end in (part.high, part.low)))
                  for part in cut.parts)
     return replace(cut_sheet(cut, shown), rows=rows)
 
@@ -199,10 +204,10 @@ def rounding_notes(rest: Rest) -> Iterator[str]:
         where, latent = f'branch {left.branch.name} of {left.stream.name}', left.stream.latent
         times = scale.factor if latent else scale.sizes
         if (left.size * times).denominator != 1:
-            show = shown.in_kilowatts if latent else shown.in_kilowatts_per_kelvin
-            yield f'{where}: {both(left.size, times, show, "kW" if latent else "kW/K")}'
+            show, unit = (shown.in_heat, shown.heat_unit) if latent else (shown.in_flow, shown.flow_unit)
+            yield f'{where}: {both(left.size, times, show, unit)}'
         if not latent and (left.state * scale.degrees).denominator != 1:
-            yield f'{where}: {both(left.state, scale.degrees, lambda tenths: tenths / 10, "°C")}'
+            yield f'{where}: {both(left.state, scale.degrees, shown.in_temperature, shown.temperature_unit)}'
     yield 'the exact targets of the rest lie between those of both'
 
 
@@ -217,10 +222,11 @@ def file_notes(rest: Rest) -> Iterator[str]:
     scale = next((posed.scale for posed in (rest.harder, rest.easier) if posed), None)
     if scale is None:
         return
+    shown = Shown(rest.followed.case.basis)
     if scale.sizes > 1:
         yield f'in the case of the rest all heats and CPs are multiplied by {scale.sizes} (#scale)'
     for left in (left for left in rest.left if left.heat and not left.stream.latent):
         if left.state.denominator != 1:
-            low = decimal(Fraction(rounded(left.state, False), 10), 1)
-            yield (f'in the case of the rest branch {left.branch.name} of {left.stream.name} begins at {low} °C, '
-                   f'rounded from {exact(left.state / 10, 6)}')
+            low = shown.temperature(rounded(left.state, False), 1)
+            yield (f'in the case of the rest branch {left.branch.name} of {left.stream.name} begins at {low} '
+                   f'{shown.temperature_unit}, rounded from {exact(shown.in_temperature(left.state), 6)}')

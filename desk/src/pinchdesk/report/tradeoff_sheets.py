@@ -28,14 +28,16 @@ def tradeoff_tables(traded: TradeOff, marked: AcceptedNetwork | None = None) -> 
     shown, begun = Shown(traded.case.basis), [traded.begun] if traded.left_begun else []
     shown_networks = [None, *begun, *(row.judged for row in traded.rows)]
     areas = areas_of_rows(traded, shown_networks)
-    floor = (*cost_facts('floor', traded.floor, traded, shown), Fact('excess', None, 'kW'), Fact('splits', None),
+    floor = (*cost_facts('floor', traded.floor, traded, shown), Fact('excess', None, shown.heat_unit),
+             Fact('splits', None),
              *([Fact('in the plant', None)] if traded.case.basis.segments else []), *areas[0],
              Fact('gone', 'no network costs less'))
     networks = (floor, *((*begun_row(traded, shown), *areas[1]) for _ in begun),
                 *(network_row(row, traded, shown, areas[at]) for at, row in enumerate(traded.rows, 1 + len(begun))))
     rows_marked = frozenset(at for at, found in enumerate(shown_networks)
                             if marked and found and found.network == marked.network)
-    moved = tuple((Fact('exchangers', Decimal(row.exchangers)), Fact('', Decimal(shown.kilowatts(shift.heat)), 'kW'),
+    moved = tuple((Fact('exchangers', Decimal(row.exchangers)),
+                   Fact('', Decimal(shown.heat(shift.heat)), shown.heat_unit),
                    Fact('along', 'loop' if shift.loop else 'path'), Fact('way', shift.told))
                   for row in traded.rows for shift in row.shifts)
     changes = [FactTable('Heat moved from one network to the next', moved)] if moved else []
@@ -61,13 +63,15 @@ def begun_row(traded: TradeOff, shown: Shown) -> FactRow:
     """The network from which the search went out, where a row is better."""
     begun = traded.begun
     return (*cost_facts(f'from {begun.count}', begun.cost, traded, shown),
-            Fact('excess', Decimal(shown.kilowatts(begun.verdict.excess)), 'kW'), Fact('splits', Decimal(begun.splits)),
+            Fact('excess', Decimal(shown.heat(begun.verdict.excess)), shown.heat_unit),
+            Fact('splits', Decimal(begun.splits)),
             *joined_facts(begun.network, traded))
 
 
 def network_row(row: TradeOffRow, traded: TradeOff, shown: Shown, areas: FactRow) -> FactRow:
     return (*cost_facts(Decimal(row.exchangers), row.cost, traded, shown),
-            Fact('excess', Decimal(shown.kilowatts(row.excess)), 'kW'), Fact('splits', Decimal(row.judged.splits)),
+            Fact('excess', Decimal(shown.heat(row.excess)), shown.heat_unit),
+            Fact('splits', Decimal(row.judged.splits)),
             *joined_facts(row.network, traded), *areas, Fact('gone', listed(row.gone, shown)),
             Fact('new', listed(row.come, shown)))
 
@@ -81,8 +85,8 @@ def joined_facts(network: Network, traded: TradeOff) -> FactRow:
 
 def listed(exchangers: tuple[Exchanger, ...], shown: Shown) -> str:
     """Exchangers with their sources and duties."""
-    return ', '.join(f'{exchanger.name} {exchanger.hot}-{exchanger.cold} {shown.kilowatts(exchanger.duty)} kW'
-                     for exchanger in exchangers)
+    return ', '.join(f'{exchanger.name} {exchanger.hot}-{exchanger.cold} {shown.heat(exchanger.duty)} '
+                     f'{shown.heat_unit}' for exchanger in exchangers)
 
 
 def proved(traded: TradeOff) -> str:
@@ -106,5 +110,5 @@ def network_text(row: TradeOffRow, traded: TradeOff) -> str:
     shown = Shown(traded.case.basis)
     head = (f'# {row.exchangers} exchangers, {row.judged.splits} splits',
             f'# cost {shown.with_unit(row.cost)}, floor {shown.with_unit(traded.floor)}, '
-            f'excess {shown.kilowatts(row.excess)} kW', *(f'# {remark}' for remark in shown.scale_remarks()))
+            f'excess {shown.heat(row.excess)} {shown.heat_unit}', *(f'# {remark}' for remark in shown.scale_remarks()))
     return '\n'.join(head) + '\n' + print_network(row.network)

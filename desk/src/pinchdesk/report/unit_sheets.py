@@ -23,10 +23,11 @@ LEFT_OUT = ('the number is sources less independent sets: the rule counts heats,
 
 def title_of(region: Region, shown: Shown) -> str:
     """`above 85 °C`, `85 to 60 °C`, `below 60 °C`, shifted."""
-    upper, lower = (shown.celsius(place.temperature) if place else '' for place in (region.upper, region.lower))
+    upper, lower = (shown.temperature(place.temperature) if place else '' for place in (region.upper, region.lower))
+    unit = shown.temperature_unit
     if upper and lower:
-        return f'{upper} to {lower} °C'
-    return f'above {lower} °C' if lower else f'below {upper} °C' if upper else 'the whole, without a cut'
+        return f'{upper} to {lower} {unit}'
+    return f'above {lower} {unit}' if lower else f'below {upper} {unit}' if upper else 'the whole, without a cut'
 
 
 def number_of(counted: RegionUnits) -> Cell:
@@ -122,11 +123,11 @@ def units_table(units: Units, followed: Followed | None = None) -> FactTable:
 
 
 def sum_of(pieces: Iterable[Piece], shown: Shown) -> str:
-    return ' + '.join(f'{piece.source.name} {shown.kilowatts(piece.heat, 9)}' for piece in pieces)
+    return ' + '.join(f'{piece.source.name} {shown.heat(piece.heat, 9)}' for piece in pieces)
 
 
 def sum_text(independent: IndependentSet, shown: Shown) -> str:
-    """`hot: H2 90 + H4 60 = cold: C1 150`, in kW."""
+    """`hot: H2 90 + H4 60 = cold: C1 150`, in the unit of heats."""
     hot, cold = ([piece for piece in independent.pieces if piece.source.side is side]
                  for side in (Side.HOT, Side.COLD))
     return f'hot: {sum_of(hot, shown)} = cold: {sum_of(cold, shown)}'
@@ -141,7 +142,7 @@ def sets_table(units: Units) -> FactTable:
             for at, independent in enumerate(found)]
     marked = frozenset(at for at, (_, independent) in enumerate(sets) if not independent.joinable)
     rows = [(Fact('shifted', title), Fact('exchangers', Decimal(len(independent.pieces) - 1)),
-             Fact('', sum_text(independent, shown), 'kW')) for title, independent in sets]
+             Fact('', sum_text(independent, shown), shown.heat_unit)) for title, independent in sets]
     if not marked:
         return FactTable('Independent sets', tuple(rows))
     return FactTable('Independent sets', tuple(
@@ -168,8 +169,9 @@ def units_notes(units: Units, followed: Followed | None = None) -> list[str]:
         told.append('a set that is marked balances and cannot be joined: the rule\'s number cannot be reached; beside '
                     'it is the number with sets that can, where it is known')
     for cross in units.crossed:
-        told.append(f'{shown.kilowatts(cross.heat)} kW cross the pinch at {shown.celsius(cross.temperature)} °C at the '
-                    'uses of least cost: there is no cut at it')
+        told.append(f'{shown.heat(cross.heat)} {shown.heat_unit} cross the pinch at '
+                    f'{shown.temperature(cross.temperature)} {shown.temperature_unit} at the uses of least cost: there '
+                    'is no cut at it')
     if followed is not None:
         told.append(f'the network has {placed_count(followed)} exchangers; `partly` are those that work in other '
                     'regions too')

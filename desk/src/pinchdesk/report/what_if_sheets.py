@@ -9,14 +9,14 @@ from fractions import Fraction
 from ..analysis.change_columns import Field
 from ..analysis.what_if import ScenarioOutcome, PlusMinus, Step, WhatIf, little
 from ..formats.case import ANY_HEAT
-from ..formats.shown import Shown, decimal
+from ..formats.shown import Shown
 from ..formats.whole_streams import parts_of
 from ..program.answers import Cut
 from .facts import Fact, FactRow, FactTable
 from .sheet import Cell, Sheet
 
 REFUSED, INFEASIBLE = 'refused', 'no heat flow'
-CELSIUS = (Field.SUPPLY, Field.TARGET, Field.LEVEL)
+TEMPERATURES = (Field.SUPPLY, Field.TARGET, Field.LEVEL)
 
 
 def what_if_sheets(answered: WhatIf) -> list[Sheet]:
@@ -53,24 +53,26 @@ def scenario_row(outcome: ScenarioOutcome, base: ScenarioOutcome, shown: Shown) 
         more = None if outcome is base or outcome.cost is None or base.cost is None \
             else Decimal(shown.cost(outcome.cost - base.cost))
         cost = [INFEASIBLE if outcome.cost is None else Decimal(shown.cost(outcome.cost)), more]
-    return (Fact('scenario', outcome.variant.name), Fact('hot', hot[0], 'kW'), Fact('more hot', hot[1], 'kW'),
-            Fact('cold', cold[0], 'kW'), Fact('more cold', cold[1], 'kW'), Fact('pinch, shifted', pinches, '°C'),
+    heat = shown.heat_unit
+    return (Fact('scenario', outcome.variant.name), Fact('hot', hot[0], heat), Fact('more hot', hot[1], heat),
+            Fact('cold', cold[0], heat), Fact('more cold', cold[1], heat),
+            Fact('pinch, shifted', pinches, shown.temperature_unit),
             Fact('least cost', cost[0], shown.cost_unit), Fact('more cost', cost[1], shown.cost_unit))
 
 
-def with_more(watts: int, base: int, is_base: bool, shown: Shown) -> list[Cell]:
+def with_more(number: int, base: int, is_base: bool, shown: Shown) -> list[Cell]:
     """A target, and what of it is more than that of the base."""
-    return [kilowatts(watts, shown), None if is_base else kilowatts(watts - base, shown)]
+    return [heat_of(number, shown), None if is_base else heat_of(number - base, shown)]
 
 
 def pinches_of(pinches: tuple[int, ...], shown: Shown) -> Cell:
     """One pinch as a number, several as a text."""
-    texts = [shown.celsius(pinch) for pinch in pinches]
+    texts = [shown.temperature(pinch) for pinch in pinches]
     return Decimal(texts[0]) if len(texts) == 1 else ' '.join(texts) or 'none'
 
 
-def kilowatts(watts: int, shown: Shown) -> Decimal:
-    return Decimal(shown.kilowatts(watts))
+def heat_of(number: int, shown: Shown) -> Decimal:
+    return Decimal(shown.heat(number))
 
 
 def steps_table(answered: WhatIf) -> FactTable:
@@ -90,21 +92,23 @@ def step_row(step: Step, scenario: str, shown: Shown) -> FactRow:
 
 def number(value: int | Fraction, field: Field, shown: Shown) -> Cell:
     """A number of a field in engineers' units."""
-    if field in CELSIUS or field is Field.CONTRIBUTION:
-        return Decimal(decimal(Fraction(value) / 10, 3))
+    if field in TEMPERATURES:
+        return Decimal(shown.temperature(value, 3))
+    if field is Field.CONTRIBUTION:
+        return Decimal(shown.difference(value, 3))
     if field is Field.CP:
-        return Decimal(shown.kilowatts_per_kelvin(value, 6))
+        return Decimal(shown.flow(value, 6))
     if field is Field.PRICE:
         return Decimal(shown.price(value))
-    return 'any' if field is Field.MOST and value == ANY_HEAT else Decimal(shown.kilowatts(value, 6))
+    return 'any' if field is Field.MOST and value == ANY_HEAT else Decimal(shown.heat(value, 6))
 
 
 def unit_of(field: Field, shown: Shown) -> str:
-    if field in CELSIUS:
-        return '°C'
+    if field in TEMPERATURES:
+        return shown.temperature_unit
     if field is Field.CONTRIBUTION:
-        return 'K'
-    return 'kW/K' if field is Field.CP else shown.price_unit if field is Field.PRICE else 'kW'
+        return shown.difference_unit
+    return shown.flow_unit if field is Field.CP else shown.price_unit if field is Field.PRICE else shown.heat_unit
 
 
 def rounding_notes(answered: WhatIf) -> Iterator[str]:
@@ -127,19 +131,21 @@ def plus_minus_table(answered: WhatIf) -> FactTable:
     shown = Shown(answered.base.case.basis)
     latent = any(risen.stream.latent for risen in answered.plus_minus)
     rows = tuple(plus_minus_row(risen, latent, shown) for risen in answered.plus_minus)
-    return FactTable('Plus and minus: more hot kW', rows)
+    return FactTable(f'Plus and minus: more hot {shown.heat_unit}', rows)
 
 
 def plus_minus_row(risen: PlusMinus, latent: bool, shown: Shown) -> FactRow:
     """The numbers of a stream; those of latent ones only where there are such."""
     def fact(name: str, value: int | None, is_there: bool) -> Fact:
-        return Fact(f'{name}:', ('refused' if value is None else kilowatts(value, shown)) if is_there else None, 'kW')
-    stream, (cp, load) = risen.stream, little(shown.basis)
+        told: Cell = 'refused' if value is None else heat_of(value, shown)
+        return Fact(f'{name}:', told if is_there else None, shown.heat_unit)
+    stream, more = risen.stream, little(shown.basis)
+    degree = f'{shown.difference(more.degree)} {shown.difference_unit}'
     first, last = (not parts_of(stream)[at].latent for at in (0, -1))
     sensible = any(not part.latent for part in parts_of(stream))
     row = [Fact('stream', stream.name), Fact('side', stream.side.value),
-           fact(f'CP +{shown.kilowatts_per_kelvin(cp, 6)} kW/K', risen.size, sensible),
-           fact(f'load +{shown.kilowatts(load, 6)} kW', risen.size, stream.latent),
-           fact('supply +1 K', risen.supply, first), fact('target +1 K', risen.target, last),
-           fact('level +1 K', risen.supply, stream.latent)]
+           fact(f'CP +{shown.flow(more.cp, 6)} {shown.flow_unit}', risen.size, sensible),
+           fact(f'load +{shown.heat(more.load, 6)} {shown.heat_unit}', risen.size, stream.latent),
+           fact(f'supply +{degree}', risen.supply, first), fact(f'target +{degree}', risen.target, last),
+           fact(f'level +{degree}', risen.supply, stream.latent)]
     return tuple(row if latent else [*row[:3], *row[4:6]])

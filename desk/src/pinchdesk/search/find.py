@@ -70,7 +70,7 @@ class FewExchangers:
         shown, verdict = Shown(self.basis), self.verdict
         return [self.counted, self.bounds, f'rule of the books, which is no bound: {self.rule}',
                 f'search: {self.ended}', f'cost {shown.with_unit(verdict.cost)}',
-                f'floor {shown.with_unit(verdict.floor)}', f'excess {shown.kilowatts(verdict.excess)} kW',
+                f'floor {shown.with_unit(verdict.floor)}', f'excess {shown.heat(verdict.excess)} {shown.heat_unit}',
                 *([self.annual] if self.annual else []), *shown.scale_remarks(), *self.remarks()]
 
     @property

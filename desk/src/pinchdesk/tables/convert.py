@@ -54,7 +54,7 @@ def case_of_table(content: bytes, name: str, wanted: Wanted) -> Converted:
 def is_case(content: bytes) -> bool:
     """Whether a file is a case; it is one too where only a comment of the desk is wrong."""
     try:
-        read_case(content, own_units=True)
+        read_case(content)
     except Refused as fault:
         return fault.cause in ('comment', 'segment')
     return True

@@ -20,6 +20,8 @@ from .units import Kind, same_unit, unit_of
 HEATS = ('kW', 'MW', 'W', 'Btu/h', 'MMBtu/h', 'kBtu/h', 'kcal/h', 'Gcal/h', 'kJ/h', 'MJ/h', 'GJ/h')
 # How many parts a unit of heats may have, the coarsest first.
 PARTS = tuple(Fraction(10) ** power for power in range(-9, 10))
+# How many steps a degree may have, and how many times larger sizes may become.
+STEPS, ROOM = (10, 100), 10
 
 
 @dataclass(frozen=True)
@@ -95,21 +97,26 @@ def temperature_of(text: str) -> str:
 
 
 def stepped(units: CaseUnits, numbers: ExactNumbers, case: Case) -> CaseUnits:
-    """The units with the coarsest steps in which all numbers are whole, else with the finest that the limits hold."""
-    fitting: list[tuple[int, CaseUnits]] = []
-    for steps in (10, 100):
-        stepping = with_zero(replace(units, steps=steps), numbers)
+    """The units with the coarsest steps in which all numbers are whole, and as many parts as leave room for changes of
+    the sizes; else with the finest steps and parts that the limits hold."""
+    fitting: list[tuple[int, bool, CaseUnits]] = []
+    for steps in STEPS:
+        stepping = with_zero(replace(units, steps=Fraction(steps)), numbers)
         for parts in PARTS:
             tried = replace(stepping, parts=parts)
             amounts = list(amounts_of(numbers, tried))
             if all(limit.holds(rounded(amount)) for limit, amount in amounts):
                 apart = sum(amount.denominator != 1 for _, amount in amounts)
-                fitting.append((apart, tried))
+                roomy = all(limit.holds(rounded(amount * ROOM)) for limit, amount in amounts if limit in (CP, LOAD))
+                fitting.append((apart, roomy, tried))
     if not fitting:
         raise Refused(3, '', 'units', 'no steps hold the numbers of this table in its own units')
-    least = min(apart for apart, _ in fitting)
-    best = [tried for apart, tried in fitting if apart == least]
-    return best[0] if least == 0 else best[-1]
+    least = min(apart for apart, _, _ in fitting)
+    best = [(roomy, tried) for apart, roomy, tried in fitting if apart == least]
+    if least:
+        return best[-1][1]
+    coarsest = [(roomy, tried) for roomy, tried in best if tried.steps == best[0][1].steps]
+    return ([tried for roomy, tried in coarsest if roomy] or [coarsest[0][1]])[-1]
 
 
 def with_zero(units: CaseUnits, numbers: ExactNumbers) -> CaseUnits:

@@ -8,11 +8,11 @@ from ..program.run import Pinch
 from ..program.verdicts import Accepted
 from ..report.answer_sheets import audit_sheets, audit_told, balance_facts
 from ..search.budget import Telling, nobody
-from .shared import CASE, NETWORK, areas_beside, ended, open_notes, with_areas
-from .word import Answer, Files, NoOptions, Word
+from .shared import CASE, NETWORK, SHOWN_IN, CaseShown, areas_beside, ended, open_notes, with_areas
+from .word import Answer, Files, Word
 
 
-def audit(files: Files, _: NoOptions = NoOptions(), tell: Telling = nobody) -> Answer:
+def audit(files: Files, _: CaseShown = CaseShown(), tell: Telling = nobody) -> Answer:
     case, network = files.one('case'), files.one('network')
     with about(case=case.name, network=network.name):
         pinch = Pinch()
@@ -25,4 +25,5 @@ def audit(files: Files, _: NoOptions = NoOptions(), tell: Telling = nobody) -> A
 
 
 AUDIT = Word('audit', 'whether a network is valid, what it costs, and where it loses heat',
-             'pinchdesk audit examples/preheater.csv examples/preheater-network.txt', (CASE, NETWORK), NoOptions, audit)
+             'pinchdesk audit examples/preheater.csv examples/preheater-network.txt', (CASE, NETWORK), CaseShown, audit,
+             (SHOWN_IN,))

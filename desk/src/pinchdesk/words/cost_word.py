@@ -13,7 +13,7 @@ from ..program.run import Pinch
 from ..report.answer_sheets import cut_table
 from ..report.facts import lines_sheet
 from ..search.budget import Telling, nobody
-from .shared import CASE, FILM, NETWORK, case_with_film
+from .shared import CASE, FILM, NETWORK, SHOWN_IN, CaseShown, case_with_film
 from .word import Answer, Files, Option, Role, Word, feasibility
 
 MEASURED = Role(NETWORK.name, 'a network, whose exchangers have their areas and costs', needed=False)
@@ -22,7 +22,7 @@ FLOOR = Option('floor', 'also the area that no network with the same utilities i
 
 
 @dataclass(frozen=True)
-class CostOptions:
+class CostOptions(CaseShown):
     """How long the floor of the area may take, in seconds; None where it is not asked for. A film coefficient for the
     sources that have none."""
 
@@ -66,4 +66,5 @@ def of_network(case: Case, network: bytes) -> Answer:
 
 
 COST = Word('cost', 'area, units, shells, capital and annual cost: targets, or of a network',
-            'pinchdesk cost examples/reactors-cost.csv --floor 1', (CASE, MEASURED), CostOptions, cost, (FLOOR, FILM))
+            'pinchdesk cost examples/reactors-cost.csv --floor 1', (CASE, MEASURED), CostOptions, cost,
+            (FLOOR, FILM, SHOWN_IN))

@@ -9,14 +9,16 @@ from ..analysis.audited import asked_pinches, audited
 from ..analysis.sweep_request import asked_range
 from ..errors import about
 from ..formats.amounts import whole
+from ..formats.case import units_of
+from ..formats.shown import Shown
 from ..formats.site import read_site
 from ..program.answers import Cut
 from ..program.run import Pinch
 from ..search.budget import Telling, nobody
 from .forms import PICTURE
 from .prices_word import STUDY, answered_study
-from .shared import (CASE, FILM, NETWORK, RANGE, SITE, USUAL_WORKERS, WORKERS, SweepOptions, completed_case, ended,
-                     rounding_told, told_of)
+from .shared import (CASE, FILM, NETWORK, RANGE, SHOWN_IN, SITE, USUAL_WORKERS, WORKERS, CaseShown, SweepOptions,
+                     completed_case, ended, rounding_told, told_of)
 from .supertarget_word import SupertargetOptions, found_over_difference
 from .word import Answer, Files, NoOptions, Option, Role, Word, WordGroup, feasibility
 
@@ -31,14 +33,14 @@ SPANS = Role(STUDY.name, 'a price study with a span (docs/FORMATS.md), in the un
 
 
 @dataclass(frozen=True)
-class GridOptions:
+class GridOptions(CaseShown):
     """How many exchangers a grid diagram may have."""
 
     most: int = 60
 
 
 @dataclass(frozen=True)
-class SpanOptions:
+class SpanOptions(CaseShown):
     """Whose spans are drawn, and by how many workers the study is answered."""
 
     utility: str | None = None
@@ -50,9 +52,9 @@ def picture(figure: Figure, feasible: bool = True) -> Answer:
     return Answer(in_form=lambda form: rendered(figure, form), status=feasibility(feasible))
 
 
-def curves_by(name: str) -> Callable[[Files, NoOptions, Telling], Answer]:
+def curves_by(name: str) -> Callable[[Files, CaseShown, Telling], Answer]:
     """What draws curves by this function of `figures`."""
-    def run(files: Files, _: NoOptions = NoOptions(), tell: Telling = nobody) -> Answer:
+    def run(files: Files, _: CaseShown = CaseShown(), tell: Telling = nobody) -> Answer:
         file = files.one('case')
         with about(case=file.name):
             pinch = Pinch()
@@ -83,17 +85,17 @@ def site(files: Files, _: NoOptions = NoOptions(), tell: Telling = nobody) -> An
     return picture(site_figure(plants, printed), printed.feasible)
 
 
-def area(files: Files, _: NoOptions = NoOptions(), tell: Telling = nobody) -> Answer:
+def area(files: Files, _: CaseShown = CaseShown(), tell: Telling = nobody) -> Answer:
     file = files.one('case')
     with about(case=file.name):
         from ..costs.area_target import asked_area
         case = completed_case(file.content)
         target = asked_area(Pinch(), case)
     from ..figures.area_curves import area_figure
-    return replace(picture(area_figure(target)), notes=rounding_told(file, case))
+    return replace(picture(area_figure(target, Shown(case.basis))), notes=rounding_told(file, case))
 
 
-def driving(files: Files, _: NoOptions = NoOptions(), tell: Telling = nobody) -> Answer:
+def driving(files: Files, _: CaseShown = CaseShown(), tell: Telling = nobody) -> Answer:
     case, network = files.one('case'), files.get('network')
     with about(case=case.name, network=network.name if network else ''):
         from ..costs.area_target import asked_area
@@ -102,7 +104,7 @@ def driving(files: Files, _: NoOptions = NoOptions(), tell: Telling = nobody) ->
         target = asked_area(pinch, whole)
         duties = asked_duties(pinch, whole, network.content) if network else {}
     from ..figures.area_curves import driving_forces_figure
-    return replace(picture(driving_forces_figure(target, duties)), notes=rounding_told(case, whole))
+    return replace(picture(driving_forces_figure(target, duties, Shown(whole.basis))), notes=rounding_told(case, whole))
 
 
 def over_difference(files: Files, options: SweepOptions, tell: Telling = nobody) -> Answer:
@@ -113,7 +115,7 @@ def over_difference(files: Files, options: SweepOptions, tell: Telling = nobody)
 
 def sweep(files: Files, options: SweepOptions, tell: Telling = nobody) -> Answer:
     file = files.one('case')
-    asked = asked_range(options.first, options.last, options.step, options.workers)
+    asked = asked_range(options.first, options.last, options.step, options.workers, units_of(file.content))
     with about(case=file.name):
         printed = Pinch().sweep(file.content, *asked, options.workers)
     from ..figures import sweep_figure
@@ -136,28 +138,28 @@ def part(name: str, summary: str, example: str, roles: tuple[Role, ...], options
 
 PARTS = (
     part('curves', 'all curves on one sheet, with targets, pinches and utilities',
-         'examples/four-stream.csv -o curves.svg', (CASE,), NoOptions, curves_by('curves_figure')),
+         'examples/four-stream.csv -o curves.svg', (CASE,), CaseShown, curves_by('curves_figure'), (SHOWN_IN,)),
     part('composite', 'the composite curves at the targets', 'examples/four-stream.csv -o composite.svg', (CASE,),
-         NoOptions, curves_by('composite_figure')),
+         CaseShown, curves_by('composite_figure'), (SHOWN_IN,)),
     part('balanced', 'the balanced composite curves: streams and the utilities that are used',
-         'examples/three-levels.csv -o balanced.svg', (CASE,), NoOptions, curves_by('balanced_figure')),
+         'examples/three-levels.csv -o balanced.svg', (CASE,), CaseShown, curves_by('balanced_figure'), (SHOWN_IN,)),
     part('grand', 'the grand composite curve, and the utilities on it',
-         'examples/three-levels.csv -o grand.svg', (CASE,), NoOptions, curves_by('grand_figure')),
+         'examples/three-levels.csv -o grand.svg', (CASE,), CaseShown, curves_by('grand_figure'), (SHOWN_IN,)),
     part('grid', 'the grid diagram of a network', 'examples/tc3.csv examples/tc3-network.txt -o grid.svg',
-         (CASE, NETWORK), GridOptions, grid, (MOST,)),
+         (CASE, NETWORK), GridOptions, grid, (MOST, SHOWN_IN)),
     part('site', 'the profiles of a site', 'examples/three-plants.csv -o site.svg', (SITE,), NoOptions, site),
     part('sweep', 'targets and least cost over the least difference', 'examples/four-stream.csv 0 20 0.4 -o sweep.svg',
-         (CASE,), SweepOptions, sweep, (*RANGE, WORKERS)),
+         (CASE,), SweepOptions, sweep, (*RANGE, WORKERS, SHOWN_IN)),
     part('prices', 'the least cost over the price of a utility',
          'examples/two-steam-levels.csv examples/steam-prices.csv --utility LP -o prices.svg', (CASE, SPANS),
-         SpanOptions, prices, (UTILITY, WORKERS)),
+         SpanOptions, prices, (UTILITY, WORKERS, SHOWN_IN)),
     part('area', 'the balanced composite curves with the area of each interval', 'examples/reactors-cost.csv -o a.svg',
-         (CASE,), NoOptions, area),
+         (CASE,), CaseShown, area, (SHOWN_IN,)),
     part('driving', 'the differences of the balanced composite curves, and of exchangers',
          'examples/reactors-cost.csv examples/reactors-cost-network.txt -o driving.svg', (CASE, BESIDE_CURVES),
-         NoOptions, driving),
+         CaseShown, driving, (SHOWN_IN,)),
     part('supertarget', 'energy, capital and annual cost over the least difference',
          'examples/reactors-cost.csv 4 20 4 -o costs.svg', (CASE,), SupertargetOptions, over_difference,
-         (*RANGE, WORKERS, FILM)))
+         (*RANGE, WORKERS, FILM, SHOWN_IN)))
 DRAW = WordGroup('draw', 'a picture: curves, a grid, a site, a sweep or prices, as .svg, .png or .pdf',
                  'pinchdesk draw curves examples/four-stream.csv -o curves.svg', PARTS)

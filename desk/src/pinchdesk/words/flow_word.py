@@ -7,18 +7,18 @@ from ..program.answers import Cut
 from ..program.run import Pinch
 from ..report.answer_sheets import cut_told, flow_facts, flow_sheets
 from ..search.budget import Telling, nobody
-from .shared import CASE, completed_case
-from .word import Answer, Files, NoOptions, Word, feasibility
+from .shared import CASE, SHOWN_IN, CaseShown, completed_case
+from .word import Answer, Files, Word, feasibility
 
 
-def flow(files: Files, _: NoOptions = NoOptions(), tell: Telling = nobody) -> Answer:
+def flow(files: Files, _: CaseShown = CaseShown(), tell: Telling = nobody) -> Answer:
     file = files.one('case')
     with about(case=file.name):
-        printed, case = Pinch().flow(file.content), completed_case(file.content, own_units=True)
+        printed, case = Pinch().flow(file.content), completed_case(file.content)
     cut = printed if isinstance(printed, Cut) else None
     return Answer(tuple(flow_sheets(case, printed)), facts=(flow_facts(case, printed),),
                   headline=cut_told(cut, Shown(case.basis)) if cut else '', status=feasibility(cut is None))
 
 
 FLOW = Word('flow', 'a heat flow of least cost with its proof, or the proof that there is none',
-            'pinchdesk flow examples/two-steam-levels.csv', (CASE,), NoOptions, flow)
+            'pinchdesk flow examples/two-steam-levels.csv', (CASE,), CaseShown, flow, (SHOWN_IN,))

@@ -16,7 +16,7 @@ from ..search.find import FewExchangers, find_network, in_place_of, unseen
 from ..search.wishes import Wishes
 from ..tables.cost_words import cost_of, percent_of
 from .forms import TEXT
-from .shared import CASE, annual_chooser
+from .shared import CASE, SHOWN_IN, CaseShown, annual_chooser
 from .word import Answer, Files, Option, Role, Word
 
 if TYPE_CHECKING:
@@ -42,12 +42,13 @@ DECLARED = (
     Option('forbid_crossing', 'no exchanger works through a place where no heat crosses', ('--forbid-crossing',),
            default=False, switch=True),
     Option('keep', 'exchangers of the network of --start that stay, each with its streams and its duty', ('--keep',),
-           metavar='E1,E2'))
+           metavar='E1,E2'),
+    SHOWN_IN)
 MOST_STEPS, MOST_WORKERS, ANY_SPLITS = 10 ** 6, 8, 10 ** 4
 
 
 @dataclass(frozen=True)
-class NetworkOptions:
+class NetworkOptions(CaseShown):
     """What a network may cost, at most or above the least cost; how long it may be searched, from a time by
     `time.monotonic` on, else from the call; in which way; and what it has to be beside."""
 
@@ -118,7 +119,7 @@ def network_facts(found: FewExchangers) -> FactRow:
     unit = shown.cost_unit
     return (Fact('exchangers', Decimal(found.exchangers)), Fact('cost', Decimal(shown.cost(verdict.cost)), unit),
             Fact('floor', Decimal(shown.cost(verdict.floor)), unit),
-            Fact('excess', Decimal(shown.kilowatts(verdict.excess)), 'kW'))
+            Fact('excess', Decimal(shown.heat(verdict.excess)), shown.heat_unit))
 
 
 NETWORK_OF_FEW = Word('network', 'a network with few exchangers, at the least cost or a little above, accepted by '

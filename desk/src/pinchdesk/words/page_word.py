@@ -14,7 +14,7 @@ from ..report.pdf import as_pdf
 from ..search.budget import Telling, nobody
 from ..text import printable
 from .forms import PAGE
-from .shared import CASE, DECIMAL, SEPARATOR, SHEET, rounding_told
+from .shared import CASE, DECIMAL, SEPARATOR, SHEET, SHOWN_IN, rounding_told
 from .table_of_case import ReadingOptions, understood_of
 from .word import Answer, Files, Option, Role, TextFile, Word
 
@@ -55,4 +55,4 @@ def page(files: Files, options: PageOptions = PageOptions(), tell: Telling = nob
 PAGE_OF_REVIEW = Word('page', 'all of a case and its networks on one page for the reviewer, .html or .pdf',
                       'pinchdesk page examples/tc3.csv examples/tc3-network.txt -o page.html',
                       (CASE, NETWORKS_BESIDE, TABLE_BESIDE), PageOptions, page,
-                      (*DECLARED, SHEET, SEPARATOR, DECIMAL), PAGE, to_file=True, ending='html')
+                      (*DECLARED, SHEET, SEPARATOR, DECIMAL, SHOWN_IN), PAGE, to_file=True, ending='html')

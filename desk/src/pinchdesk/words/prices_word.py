@@ -10,14 +10,14 @@ from ..program.run import Pinch
 from ..report.answer_sheets import prices_tables
 from ..report.facts import rows_of_tables
 from ..search.budget import Telling, nobody
-from .shared import CASE, USUAL_WORKERS, WORKERS, told_of
+from .shared import CASE, SHOWN_IN, USUAL_WORKERS, WORKERS, CaseShown, told_of
 from .word import Answer, Files, Role, Word, feasibility
 
 STUDY = Role('study', 'a price study (docs/FORMATS.md), in the unit of the prices of the case')
 
 
 @dataclass(frozen=True)
-class PricesOptions:
+class PricesOptions(CaseShown):
     """By how many workers a study is answered."""
 
     workers: int = USUAL_WORKERS
@@ -41,4 +41,4 @@ def prices(files: Files, options: PricesOptions = PricesOptions(), tell: Telling
 
 PRICES = Word('prices', 'the least cost at other prices',
               'pinchdesk prices examples/two-steam-levels.csv examples/steam-prices.csv', (CASE, STUDY), PricesOptions,
-              prices, (WORKERS,))
+              prices, (WORKERS, SHOWN_IN))

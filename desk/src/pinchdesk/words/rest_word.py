@@ -10,14 +10,14 @@ from ..report.facts import FactRow
 from ..report.rest_sheets import file_notes, rest_facts, rest_sheets, rest_told, rounding_notes
 from ..search.budget import Telling, nobody
 from ..text import printable
-from .shared import CASE, NETWORK, ended, told_of
-from .word import Answer, Files, FurtherFiles, FurtherOutput, NoOptions, TextFile, Word
+from .shared import CASE, NETWORK, SHOWN_IN, CaseShown, ended, told_of
+from .word import Answer, Files, FurtherFiles, FurtherOutput, TextFile, Word
 
 REST_CASE = FurtherOutput('rest_case', '--case', 'where the case of the rest is written too')
 NO_CASE = 'there is no case of the rest: nothing is left, or the network is rejected'
 
 
-def rest(files: Files, _: NoOptions = NoOptions(), tell: Telling = nobody) -> Answer:
+def rest(files: Files, _: CaseShown = CaseShown(), tell: Telling = nobody) -> Answer:
     case, network = files.one('case'), files.one('network')
     with about(case=case.name, network=network.name):
         left = remaining(case.content, network.content, Pinch())
@@ -45,5 +45,5 @@ def case_file(left: Rest, network: TextFile) -> FurtherFiles:
 
 
 REST = Word('rest', 'what is left of a network with open branches, and what the choice so far costs',
-            'pinchdesk rest examples/four-stream.csv examples/four-stream-begun.txt', (CASE, NETWORK), NoOptions, rest,
-            further=(REST_CASE,))
+            'pinchdesk rest examples/four-stream.csv examples/four-stream-begun.txt', (CASE, NETWORK), CaseShown, rest,
+            (SHOWN_IN,), further=(REST_CASE,))

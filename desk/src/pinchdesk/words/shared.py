@@ -24,19 +24,29 @@ SITE = Role('site', 'a site file (docs/FORMATS.md), in tenths of °C and 10 W/K,
 USUAL_WORKERS = min(16, os.cpu_count() or 1)
 WORKERS = Option('workers', 'how many workers make it (1 to 16); the answer is the same', ('--workers',), whole,
                  USUAL_WORKERS, metavar='N', in_many=1)
-RANGE = tuple(Option(name, 'a least difference in K, of a fifth of a K at least', metavar=name.upper())
-              for name in ('first', 'last', 'step'))
+RANGE = tuple(Option(name, 'a least difference in K, of a fifth of a K at least; of a case in units of its own with '
+                     'its unit', metavar=name.upper()) for name in ('first', 'last', 'step'))
+SHOWN_IN = Option('units', 'SI: a case in units of its own is shown in °C and kW', ('--units',), default='table',
+                  choices=('SI', 'table'))
 FILM = Option('film', 'a film coefficient for each source that has none, which is reported: 500 in W/m2K, or '
               '"0.5 kW/m2K"', ('--film',), metavar='H')
 SHEET = Option('sheet', 'the sheet of a workbook; otherwise the first one', ('--sheet',), metavar='NAME')
-SEPARATOR = Option('separator', 'what separates the fields of a text; `tab` is a tab', ('--separator',), metavar='SIGN')
+SEPARATOR = Option('separator', 'what separates the fields of a text; `tab` is a tab', ('--separator',),
+                   metavar='SIGN')
 DECIMAL = Option('decimal', 'the decimal mark, where the table leaves it open', ('--decimal',),
                  choices=('.', ','))
 
 
+@dataclass(frozen=True, kw_only=True)
+class CaseShown:
+    """In which units a case is shown that has units of its own: its `table`'s, or SI."""
+
+    units: str = 'table'
+
+
 @dataclass(frozen=True)
-class SweepOptions:
-    """The first and the last least difference of a sweep and its step, in K."""
+class SweepOptions(CaseShown):
+    """The first and the last least difference of a sweep and its step, in K or with their units."""
 
     first: str
     last: str
@@ -44,10 +54,9 @@ class SweepOptions:
     workers: int = USUAL_WORKERS
 
 
-def completed_case(content: bytes, own_units: bool = False) -> Case:
-    """A case that the program has read, with the utilities that stand in; in units of its own where the word shows
-    these."""
-    return completed(read_case(content, own_units))
+def completed_case(content: bytes) -> Case:
+    """A case that the program has read, with the utilities that stand in."""
+    return completed(read_case(content))
 
 
 def case_with_film(file: TextFile, film: str | None) -> tuple[Case, tuple[str, ...]]:

@@ -6,9 +6,10 @@ from typing import TYPE_CHECKING
 
 from ..analysis.sweep_request import asked_range
 from ..errors import about
+from ..formats.case import units_of
 from ..program.run import Pinch
 from ..search.budget import Telling, nobody
-from .shared import CASE, FILM, RANGE, WORKERS, SweepOptions, case_with_film
+from .shared import CASE, FILM, RANGE, SHOWN_IN, WORKERS, SweepOptions, case_with_film
 from .word import Answer, Files, Word
 
 if TYPE_CHECKING:
@@ -26,7 +27,7 @@ def found_over_difference(files: Files, options: SweepOptions) -> tuple[Supertar
     """The supertarget, and what is reported about its case."""
     from ..costs.supertarget import supertarget
     file = files.one('case')
-    asked = asked_range(options.first, options.last, options.step, options.workers)
+    asked = asked_range(options.first, options.last, options.step, options.workers, units_of(file.content))
     film = options.film if isinstance(options, SupertargetOptions) else None
     with about(case=file.name):
         case, told = case_with_film(file, film)
@@ -43,4 +44,4 @@ def over_difference(files: Files, options: SweepOptions, tell: Telling = nobody)
 
 SUPERTARGET = Word('supertarget', 'energy, area, capital and annual cost over the least difference',
                    'pinchdesk supertarget examples/reactors-cost.csv 4 20 4', (CASE,), SupertargetOptions,
-                   over_difference, (*RANGE, WORKERS, FILM))
+                   over_difference, (*RANGE, WORKERS, FILM, SHOWN_IN))

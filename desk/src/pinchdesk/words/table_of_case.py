@@ -2,21 +2,22 @@
 from __future__ import annotations
 
 from dataclasses import dataclass, replace
-from fractions import Fraction
 
 from ..errors import Refused, of_file
 from ..formats.case import Case
-from ..formats.shown import decimal as with_decimals
+from ..formats.case_units import CaseUnits
+from ..formats.shown import decimal, is_rounded
 from ..report.sheet import Sheet
 from ..report.understood_sheet import understood_sheet
 from ..tables.convert import case_of_table
 from ..tables.wanted import wanted_by
 from ..text import printable
+from .shared import CaseShown
 from .word import TextFile
 
 
 @dataclass(frozen=True)
-class ReadingOptions:
+class ReadingOptions(CaseShown):
     """How the table is to be read, in the words of the command; all else the case says."""
 
     sheet: str | None = None
@@ -27,10 +28,11 @@ class ReadingOptions:
 def understood_of(file: TextFile, case: Case, options: ReadingOptions) -> Sheet:
     """How the table of a case was understood; `Refused` where the table gives another case."""
     # Its own least difference, else that of the case. Prices are not compared, so that any hours do.
-    own = f'{with_decimals(Fraction(case.contribution, 5), 9)} K'
+    own = difference_of(case)
     faults: list[Refused] = []
     for difference in (None, own):
         asked = wanted_by(difference, options.sheet, options.separator, options.decimal, str(case.basis.scale), '1')
+        asked = replace(asked, own_units=case.basis.units is not None)
         try:
             with of_file(file.name):
                 table = case_of_table(file.content, file.name, asked)
@@ -42,6 +44,12 @@ def understood_of(file: TextFile, case: Case, options: ReadingOptions) -> Sheet:
     if len(faults) > 1:
         raise faults[1]
     raise Refused(3, '', 'another case', 'the table gives another case than this one', file.name)
+
+
+def difference_of(case: Case) -> str:
+    """The least difference of a case with its unit: in K, or in °F where it is no decimal number of these."""
+    kelvin = (case.basis.units or CaseUnits()).in_tenths_between(case.contribution) / 5
+    return f'{decimal(kelvin * 9 / 5, 9)} °F' if is_rounded(kelvin, 9) else f'{decimal(kelvin, 9)} K'
 
 
 def unpriced(case: Case) -> tuple[object, ...]:

@@ -7,11 +7,11 @@ from ..errors import about
 from ..program.run import Pinch
 from ..report.exchangers import (exchangers_sheet, mixes_sheets, streams_sheets, sums_facts, sums_sheet, verdict_sheet)
 from ..search.budget import Telling, nobody
-from .shared import CASE, NETWORK, areas_beside, ended, open_notes, with_areas
-from .word import Answer, Files, NoOptions, Word
+from .shared import CASE, NETWORK, SHOWN_IN, CaseShown, areas_beside, ended, open_notes, with_areas
+from .word import Answer, Files, Word
 
 
-def table(files: Files, _: NoOptions = NoOptions(), tell: Telling = nobody) -> Answer:
+def table(files: Files, _: CaseShown = CaseShown(), tell: Telling = nobody) -> Answer:
     case, network = files.one('case'), files.one('network')
     with about(case=case.name, network=network.name):
         pinch = Pinch()
@@ -26,4 +26,4 @@ def table(files: Files, _: NoOptions = NoOptions(), tell: Telling = nobody) -> A
 
 TABLE_OF_EXCHANGERS = Word('table', 'the exchangers of a network: temperatures, differences, duties, side of the '
                            'pinch, penalties', 'pinchdesk table examples/tc3.csv examples/tc3-network.txt',
-                           (CASE, NETWORK), NoOptions, table)
+                           (CASE, NETWORK), CaseShown, table, (SHOWN_IN,))

@@ -5,17 +5,17 @@ from ..errors import about
 from ..program.run import Pinch
 from ..report.answer_sheets import targets_facts, targets_sheets
 from ..search.budget import Telling, nobody
-from .shared import CASE, completed_case, rounding_told
-from .word import Answer, Files, NoOptions, Word
+from .shared import CASE, SHOWN_IN, CaseShown, completed_case, rounding_told
+from .word import Answer, Files, Word
 
 
-def targets(files: Files, _: NoOptions = NoOptions(), tell: Telling = nobody) -> Answer:
+def targets(files: Files, _: CaseShown = CaseShown(), tell: Telling = nobody) -> Answer:
     file = files.one('case')
     with about(case=file.name):
-        printed, case = Pinch().targets(file.content), completed_case(file.content, own_units=True)
+        printed, case = Pinch().targets(file.content), completed_case(file.content)
     return Answer(tuple(targets_sheets(case, printed)), facts=(targets_facts(case, printed),),
                   notes=rounding_told(file, case))
 
 
 TARGETS = Word('targets', 'the least hot and cold utility, and the pinches',
-               'pinchdesk targets examples/four-stream.csv', (CASE,), NoOptions, targets)
+               'pinchdesk targets examples/four-stream.csv', (CASE,), CaseShown, targets, (SHOWN_IN,))

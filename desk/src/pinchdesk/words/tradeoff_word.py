@@ -15,7 +15,7 @@ from ..report.sheet import Sheet, rendered
 from ..report.tradeoff_sheets import network_texts, proved, tradeoff_sheets, tradeoff_tables
 from ..search.budget import Telling, nobody
 from .forms import PICTURES, TABLE_OR_PICTURE
-from .shared import CASE, NETWORK, annual_chooser
+from .shared import CASE, NETWORK, SHOWN_IN, CaseShown, annual_chooser
 from .word import Answer, Files, FurtherFiles, FurtherOutput, Option, Role, Word
 
 if TYPE_CHECKING:
@@ -33,7 +33,7 @@ STOPPED = 'the search was stopped: these are the networks that were found so far
 
 
 @dataclass(frozen=True)
-class TradeoffOptions:
+class TradeoffOptions(CaseShown):
     """How long networks may be searched, from a time by `time.monotonic` on, else from the call."""
 
     seconds: str = '30'
@@ -86,4 +86,4 @@ def in_form(traded: TradeOff, sheets: tuple[Sheet, ...]) -> Callable[[str], str 
 
 TRADEOFF = Word('tradeoff', 'exchangers against cost: networks of fewer and fewer exchangers, as a table or a picture',
                 'pinchdesk tradeoff examples/tc3.csv examples/tc3-network.txt --seconds 1 -o tc3.svg', (CASE, BEGUN),
-                TradeoffOptions, tradeoff, (SECONDS, ANNUAL), TABLE_OR_PICTURE, (NETWORKS,))
+                TradeoffOptions, tradeoff, (SECONDS, ANNUAL, SHOWN_IN), TABLE_OR_PICTURE, (NETWORKS,))

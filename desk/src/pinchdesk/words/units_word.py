@@ -17,13 +17,13 @@ from ..report.answer_sheets import cut_table
 from ..report.facts import rows_of_tables
 from ..report.unit_sheets import units_notes, units_sheets, units_tables
 from ..search.budget import Telling, nobody
-from .shared import CASE, NETWORK, completed_case, ended, told_of
-from .word import Answer, Files, NoOptions, Role, Word, feasibility
+from .shared import CASE, NETWORK, SHOWN_IN, CaseShown, completed_case, ended, told_of
+from .word import Answer, Files, Role, Word, feasibility
 
 BESIDE = Role(NETWORK.name, 'a network, whose exchangers are counted too', needed=False)
 
 
-def units(files: Files, _: NoOptions = NoOptions(), tell: Telling = nobody) -> Answer:
+def units(files: Files, _: CaseShown = CaseShown(), tell: Telling = nobody) -> Answer:
     case, network = files.one('case'), files.get('network')
     with about(case=case.name, network=network.name if network else ''):
         pinch = Pinch()
@@ -46,5 +46,5 @@ def counted_units(counted: Units, followed: Followed | None = None) -> Answer:
 
 
 UNITS = Word('units', 'the least number of exchangers by the books\' rule, on each side of the pinch',
-             'pinchdesk units examples/four-stream.csv examples/four-stream-network.txt', (CASE, BESIDE), NoOptions,
-             units)
+             'pinchdesk units examples/four-stream.csv examples/four-stream-network.txt', (CASE, BESIDE), CaseShown,
+             units, (SHOWN_IN,))

@@ -11,7 +11,7 @@ from ..program.run import Pinch
 from ..report.facts import rows_of_tables
 from ..report.what_if_sheets import rounding_notes, what_if_tables
 from ..search.budget import Telling, nobody
-from .shared import CASE, DECIMAL, SHEET, USUAL_WORKERS, WORKERS, rounding_told, told_of
+from .shared import CASE, DECIMAL, SHEET, SHOWN_IN, USUAL_WORKERS, WORKERS, CaseShown, rounding_told, told_of
 from .word import Answer, Files, Role, Word, feasibility
 
 CHANGES = Role('changes', 'scenarios: .xlsx, or text with separators; without them the plus-minus numbers alone',
@@ -19,7 +19,7 @@ CHANGES = Role('changes', 'scenarios: .xlsx, or text with separators; without th
 
 
 @dataclass(frozen=True)
-class WhatIfOptions:
+class WhatIfOptions(CaseShown):
     """How the table of changes is read, and by how many workers its scenarios are asked."""
 
     sheet: str | None = None
@@ -46,4 +46,4 @@ def whatif(files: Files, options: WhatIfOptions = WhatIfOptions(), tell: Telling
 
 WHATIF = Word('whatif', 'targets, pinch and cost of scenarios beside those of the case, and what more of a stream '
               'would do', 'pinchdesk whatif examples/two-steam-levels.csv examples/changes.csv', (CASE, CHANGES),
-              WhatIfOptions, whatif, (SHEET, DECIMAL, WORKERS))
+              WhatIfOptions, whatif, (SHEET, DECIMAL, WORKERS, SHOWN_IN))

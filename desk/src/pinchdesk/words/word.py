@@ -3,10 +3,11 @@ and no stream; whoever asks it loads the files, and writes the answer."""
 from __future__ import annotations
 
 from collections.abc import Callable, Mapping, Sequence
-from dataclasses import dataclass, field
+from dataclasses import dataclass, field, replace
 from typing import Any, Generic, TypeVar
 
 from ..errors import INFEASIBLE, Status
+from ..formats.case import said_in_si
 from ..report.facts import FactRow
 from ..report.sheet import Sheet, rendered
 from ..search.budget import Telling
@@ -64,6 +65,10 @@ class Files:
 
     def several(self, role: str) -> tuple[TextFile, ...]:
         return self.by_role.get(role, ())
+
+    def each_of(self, role: str, change: Callable[[bytes], bytes]) -> Files:
+        """The files with what those of a role hold changed."""
+        return self | {role: tuple(replace(file, content=change(file.content)) for file in self.several(role))}
 
     def __or__(self, other: Mapping[str, tuple[TextFile, ...]]) -> Files:
         return Files({**self.by_role, **other})
@@ -144,6 +149,12 @@ class Word(Generic[Options]):
     further: tuple[FurtherOutput, ...] = ()
     to_file: bool = False
     ending: str = 'txt'
+
+    def answer(self, files: Files, options: Options, tell: Telling) -> Answer:
+        """What it answers; a case in units of its own is shown in °C and kW where the options say so."""
+        if getattr(options, 'units', '') == 'SI':
+            files = files.each_of('case', said_in_si)
+        return self.run(files, options, tell)
 
 
 @dataclass(frozen=True)

@@ -25,7 +25,7 @@ from .streams import put_streams
 # How many exchangers have room; the order of their bars among what lies above and below them; the room around texts.
 MOST, BARS, PAD = 60, 4, 0.034
 LEGEND = ((ABOVE, 'above the pinch'), (BETWEEN, 'between pinches'), (BELOW, 'below the pinch'),
-          (ACROSS, 'on both sides of a pinch (↯ kW that cross it)'))
+          (ACROSS, 'on both sides of a pinch (↯ {heat} that cross it)'))
 
 
 def grid_figure(followed: Followed, pinches: tuple[PinchPoint, ...], verdict: Verdict, most: int = MOST) -> Figure:
@@ -65,8 +65,9 @@ def headline(followed: Followed, verdict: Verdict, finding: Finding | None, plan
     if isinstance(verdict, Accepted):
         unfinished = unfinished_told(followed)
         begun = f'{unfinished[0].upper()}{unfinished[1:]}; with utilities there' if unfinished else 'Accepted'
-        told = f'{begun}: hot utility {shown.kilowatts(verdict.hot)} kW, cold utility ' \
-               f'{shown.kilowatts(verdict.cold)} kW, excess {shown.kilowatts(verdict.excess)} kW'
+        hot, cold, excess = (f'{shown.heat(heat)} {shown.heat_unit}'
+                             for heat in (verdict.hot, verdict.cold, verdict.excess))
+        told = f'{begun}: hot utility {hot}, cold utility {cold}, excess {excess}'
     elif finding:
         told = f'Rejected at {finding.place}: {finding.sentence}'
     else:

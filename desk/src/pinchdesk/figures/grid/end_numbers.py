@@ -14,6 +14,14 @@ from .layout import GridLayout, reach
 PAD = 0.034
 
 
+def flow_heading(plan: GridLayout) -> str:
+    return f'CP {plan.shown.flow_unit}'
+
+
+def load_heading(plan: GridLayout) -> str:
+    return f'load {plan.shown.heat_unit}'
+
+
 def margins(plan: GridLayout) -> list[float]:
     """Sets the plan's left end, and gives where the columns of CPs and loads end, right of the streams."""
     size = plan.type.size
@@ -22,8 +30,8 @@ def margins(plan: GridLayout) -> list[float]:
     left = max(width(end.left, size, end.missed) for end in ends)
     plan.left = 0.25 + names + 0.12 + left + 0.05
     right = max(width(end.right, size, end.missed) for end in ends)
-    flows = max(width(text, size) for text in ['CP kW/K', *(end.flow for end in ends)])
-    loads = max(width(text, size) for text in ['load kW', *(end.load for end in ends)])
+    flows = max(width(text, size) for text in [flow_heading(plan), *(end.flow for end in ends)])
+    loads = max(width(text, size) for text in [load_heading(plan), *(end.load for end in ends)])
     first = right + 0.3 + flows
     return [first, first + 0.2 + loads, first + 0.2 + loads + 0.25]
 
@@ -32,7 +40,7 @@ def put_numbers(sheet: Canvas, numbers: list[float], top: float) -> None:
     """The columns at both sides, under their headings, and what is at the ends of each stream. The bars of exchangers
     have to be drawn."""
     plan, edges = sheet.plan, sheet.plan.edges
-    for x, text in ((edges[1] + numbers[0], 'CP kW/K'), (edges[1] + numbers[1], 'load kW')):
+    for x, text in ((edges[1] + numbers[0], flow_heading(plan)), (edges[1] + numbers[1], load_heading(plan))):
         sheet.write(x, top + 0.02, text, ha='right', color=PALE)
     for row in plan.rows:
         y, end = sheet.heights[row.name][0], end_of(plan, row)

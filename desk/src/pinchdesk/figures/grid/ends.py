@@ -31,20 +31,20 @@ def end_of(plan: GridLayout, row: Stream | Utility) -> DrawnEnd:
     if isinstance(row, Utility):
         duties = [exchanger.duty for exchanger in plan.followed.network.exchangers
                   if row.name in (exchanger.hot, exchanger.cold)]
-        level = '' if row.invented else shown.celsius(row.level)
+        level = '' if row.invented else shown.temperature(row.level)
         ends = (level, '') if row.side is Side.HOT else ('', level)
-        return DrawnEnd(*ends, '', shown.kilowatts(sum(duties, Fraction(0))))
+        return DrawnEnd(*ends, '', shown.heat(sum(duties, Fraction(0))))
     reached, missed = reached_by(plan, row)
-    supply = shown.celsius(row.supply)
-    flows = ['latent' if part.latent else shown.kilowatts_per_kelvin(part.cp) for part in parts_of(row)]
+    supply = shown.temperature(row.supply)
+    flows = ['latent' if part.latent else shown.flow(part.cp) for part in parts_of(row)]
     flow = ' / '.join(flows if len(flows) <= MOST_FLOWS else [flows[0], '..', flows[-1]])
     ends = (supply, reached) if row.side is Side.HOT else (reached, supply)
-    return DrawnEnd(ends[0], ends[1], flow, shown.kilowatts(row.heat), missed)
+    return DrawnEnd(ends[0], ends[1], flow, shown.heat(row.heat), missed)
 
 
 def reached_by(plan: GridLayout, stream: Stream) -> tuple[str, bool]:
     """What the network does at the end of a stream, and whether that is not what is wanted."""
-    shown, target = plan.shown, plan.shown.celsius(stream.target)
+    shown, target = plan.shown, plan.shown.temperature(stream.target)
     ends = plan.followed.ends[stream.name]
     if len(ends) != 1:
         return f'{len(ends) or "no"} end{"s" if len(ends) else ""}, target {target}', True
@@ -52,7 +52,7 @@ def reached_by(plan: GridLayout, stream: Stream) -> tuple[str, bool]:
     if branch.state is None:
         return f'?, target {target}', True
     if branch.size != stream.size:
-        return f'{shown.celsius(branch.temperature or 0)} of {percent(branch.size / stream.size)}', True
+        return f'{shown.temperature(branch.temperature or 0)} of {percent(branch.size / stream.size)}', True
     wanted = Fraction(stream.target) if not stream.latent else Fraction(stream.side is Side.COLD)
     if branch.state == wanted:
         return target, False
@@ -64,8 +64,8 @@ def reached_by(plan: GridLayout, stream: Stream) -> tuple[str, bool]:
 
 def away(state: Fraction, target: int, shown: Shown) -> str:
     """A temperature with as many decimals as tell it from the target, up to six."""
-    wanted = shown.celsius(target)
-    return next((text for text in (shown.celsius(state, places) for places in range(3, 7)) if text != wanted),
+    wanted = shown.temperature(target)
+    return next((text for text in (shown.temperature(state, places) for places in range(3, 7)) if text != wanted),
                 f'near {wanted}')
 
 
@@ -75,7 +75,8 @@ def reading(row: Stream | Utility, side: str) -> bool:
 
 
 def end_texts(plan: GridLayout) -> str:
-    told = 'temperatures in °C, duties in kW; at a split the part of the stream that each branch has'
+    told = f'temperatures in {plan.shown.temperature_unit}, duties in {plan.shown.heat_unit}; at a split the part of ' \
+           'the stream that each branch has'
     invented = any(isinstance(row, Utility) and row.invented for row in plan.rows)
     told += '; HOT and COLD stand for a heater and a cooler of any level' if invented else ''
     return '; '.join([told, *kink_texts(plan), *plan.notes])
@@ -85,6 +86,7 @@ def kink_texts(plan: GridLayout) -> list[str]:
     """Where the CP of each stream changes."""
     kinks: dict[str, list[str]] = {}
     for kink in plan.kinks:
-        kinks.setdefault(kink.stream.name, []).append(plan.shown.celsius(kink.temperature))
-    places = '; '.join(f'{name} at {enumerated(dict.fromkeys(ends))} °C' for name, ends in kinks.items())
+        kinks.setdefault(kink.stream.name, []).append(plan.shown.temperature(kink.temperature))
+    unit = plan.shown.temperature_unit
+    places = '; '.join(f'{name} at {enumerated(dict.fromkeys(ends))} {unit}' for name, ends in kinks.items())
     return [f'{KINK} is where the CP of a stream changes: {places}'] if places else []

@@ -71,13 +71,13 @@ class GridLayout:
 
 
 def labels_of(followed: Followed, pinches: tuple[PinchPoint, ...]) -> dict[str, tuple[str, ...]]:
-    """The lines at each exchanger: its name, its duty in kW, and what it carries across the pinch."""
+    """The lines at each exchanger: its name, its duty, and what it carries across the pinch."""
     shown, made = Shown(followed.case.basis), {}
     for passage in followed.passages:
         crossings = [crossing for crossing in (passage.crossing(pinch) for pinch in pinches) if crossing]
-        lines = [passage.exchanger.name, shown.kilowatts(passage.exchanger.duty)]
+        lines = [passage.exchanger.name, shown.heat(passage.exchanger.duty)]
         if crossings:
-            lines.append(f'↯ {shown.kilowatts(max(crossings, key=abs))}')
+            lines.append(f'↯ {shown.heat(max(crossings, key=abs))}')
         made[passage.exchanger.name] = tuple(lines)
     return made
 
@@ -114,7 +114,7 @@ def numbers_of(followed: Followed) -> list[tuple[str, str]]:
     """What is written between columns, in two and in one decimals: temperatures, and shares behind splits."""
     shown = Shown(followed.case.basis)
     temperatures = [branch.temperature for branch in followed.branches.values()]
-    made = [(shown.celsius(temperature), shown.celsius(temperature, 1))
+    made = [(shown.temperature(temperature), shown.temperature(temperature, 1))
             for temperature in temperatures if temperature is not None]
     for statement in followed.network.statements:
         if isinstance(statement, Split):
@@ -196,7 +196,7 @@ def pinch_texts(plan: GridLayout, wide: float) -> list[PinchText]:
     taken: list[float] = []
     for at, pinch in enumerate(plan.pinches):
         hot, cold = (temperatures_at(case, side, pinch.temperature).told(shown) for side in (Side.HOT, Side.COLD))
-        text = f'pinch {shown.celsius(pinch.temperature)} °C shifted: hot {hot}, cold {cold}'
+        text = f'pinch {shown.temperature(pinch.temperature)} {shown.temperature_unit} shifted: hot {hot}, cold {cold}'
         half = width(text, size) / 2
         middle = max(min(plan.pinch_x(at), wide - half - 0.1), half + 0.1)
         level = next((row for row, right in enumerate(taken) if right < middle - half), len(taken))

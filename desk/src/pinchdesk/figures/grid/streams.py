@@ -105,7 +105,7 @@ def put_state(sheet: Canvas, branch: Branch, made: Node | None, x: float, y: flo
         far = far if plan.type.upright else -far
         sheet.write(x + way * plan.type.pitch / 2, y + far, text, fontsize=plan.type.size - 1, color='#555555', **style)
     elif not ended and not branch.stream.latent:
-        text = '?' if branch.temperature is None else plan.shown.celsius(branch.temperature, 2 - plan.type.places)
+        text = '?' if branch.temperature is None else plan.shown.temperature(branch.temperature, 2 - plan.type.places)
         sheet.write(x + way * plan.type.pitch / 2, y + far, text, fontsize=plan.type.size - 0.5, color='#444444',
                     **style)
 
