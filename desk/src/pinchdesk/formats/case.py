@@ -243,6 +243,13 @@ def units_of(text: str | bytes) -> CaseUnits | None:
         return None
 
 
+def rounding_of(text: str | bytes) -> str:
+    """How far what its table rounded takes the targets of a case, as a comment of it says; empty where none does."""
+    rows = (noted(Basis(), row).rounding for _, row in records(text)
+            if row[0].startswith('# ') and len(row) == 7)
+    return next((rounding for rounding in rows if rounding), '')
+
+
 def said_in_si(content: bytes) -> bytes:
     """A case in units of its own with the same numbers, said in °C and kW: all but its row `#units` stays as it is."""
     units = units_of(content)

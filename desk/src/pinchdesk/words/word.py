@@ -7,7 +7,7 @@ from dataclasses import dataclass, field, replace
 from typing import Any, Generic, TypeVar
 
 from ..errors import INFEASIBLE, Status
-from ..formats.case import said_in_si
+from ..formats.case import rounding_of, said_in_si
 from ..report.facts import FactRow
 from ..report.sheet import Sheet, rendered
 from ..search.budget import Telling
@@ -151,10 +151,14 @@ class Word(Generic[Options]):
     ending: str = 'txt'
 
     def answer(self, files: Files, options: Options, tell: Telling) -> Answer:
-        """What it answers; a case in units of its own is shown in °C and kW where the options say so."""
+        """What it answers; a case in units of its own is shown in °C and kW where the options say so. How far what the
+        table of a case rounded takes its targets is told beside all that is said of it."""
         if getattr(options, 'units', '') == 'SI':
             files = files.each_of('case', said_in_si)
-        return self.run(files, options, tell)
+        answer = self.run(files, options, tell)
+        said = ((file.name, rounding_of(file.content)) for file in files.several('case'))
+        notes = [f'{name}: {rounding}' for name, rounding in said if rounding]
+        return replace(answer, notes=(*answer.notes, *(note for note in notes if note not in answer.notes)))
 
 
 @dataclass(frozen=True)
