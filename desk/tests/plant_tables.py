@@ -2,9 +2,11 @@
 memory; the others were worked out by hand."""
 from __future__ import annotations
 
+import io
 from dataclasses import dataclass
 
-from tabled import workbook
+import openpyxl
+from tabled import saved, workbook
 
 Rows = list[list[object]]
 
@@ -128,6 +130,119 @@ BOOK = workbook([['Heat integration study'], ['Plant 7'], ['checked by A. B.']],
                          [None, 'C2', 80, 140, 4]],
                 Utilities=[['Utility', 'Tin (°C)', 'Tout (°C)', 'Price (€/MWh)'], ['HP steam', 240, 239, 40],
                            ['Cooling water', 15, 25, 2]])
+SIDEWAYS = """Stream data of unit 300;;;;
+Stream;H1;H2;C1;C2
+Supply temperature (°C);170;150;20;80
+Target temperature (°C);60;30;135;140
+Heat load (kW);330;180;230;240
+"""
+SIDEWAYS_BOOK = workbook([[None, 'H1', 'H2', 'C1', 'C2'], ['Ts [°F]', 338, 302, 68, 176],
+                          ['Tt [°F]', 140, 86, 275, 284], ['CP [kW/K]', 3, 1.5, 2, 4]])
+TWO_IN_A_ROW = """Hot stream;Tin (°C);Tout (°C);CP (kW/K);Cold stream;Tin (°C);Tout (°C);CP (kW/K)
+H1;170;60;3;C1;20;135;2
+H2;150;30;1.5;C2;80;140;4
+"""
+T1_T2 = """Stream;T1 (°C);T2 (°C);C (kW/°C)
+H1;170;60;3
+H2;150;30;1.5
+C1;20;135;2
+C2;80;140;4
+"""
+TE_TA = """Strom;TE in °C;TA in °C;W in kW/K
+H1;170,0;60,0;3,0
+H2;150,0;30,0;1,5
+C1;20,0;135,0;2,0
+C2;80,0;140,0;4,0
+"""
+THETA = """Strom;ϑ ein [°C];ϑ aus [°C];ṁ·cp [kW/K]
+H1;170;60;3
+H2;150;30;1,5
+C1;20;135;2
+C2;80;140;4
+"""
+STEAM_BY_MASS = """Stream;Kind;Tin (°C);Tout (°C);CP (kW/K);Flow (t/h);Latent heat (kJ/kg)
+H1;;170;60;3;;
+H2;;150;30;1.5;;
+C1;;20;135;2;;
+C2;;80;140;4;;
+Reboiler;cold;120;120;;1.8;2000
+"""
+COMMAS = """Stream,Supply temperature (°C),Target temperature (°C),Heat capacity flow rate (kW/K),Heat load (kW)
+H1,"170,0","60,0","3,0","330,0"
+H2,"150,0","30,0","1,5","180,0"
+C1,"20,0","135,0","2,0","230,0"
+C2,"80,0","140,0","4,0","240,0"
+"""
+NOTES_BETWEEN = """Stream;Tin (°C);Tout (°C);CP (kW/K);Duty (kW)
+H1;170;60;3;330
+note: H1 is the effluent of the reactor;;;;
+H2;150;30;1.5;180
+Subtotal hot;;;;510
+* fouls;;;;
+C1;20;135;2;230
+C2;80;140;4;240
+Subtotal cold;;;;470
+Net;;;;40
+(1) design case;;;;
+"""
+LEGEND = """Stream;Ts;Tt;CP
+H1;338;140;3
+H2;302;86;1.5
+C1;68;275;2
+C2;176;284;4
+;;;
+Ts;supply temperature;°F;
+Tt;target temperature;°F;
+CP;heat capacity flow;kW/K;
+"""
+LEGEND_ABOVE = """Legend: T in °C, Q in kcal/h;;;
+Stream;Tin;Tout;Q
+H1;170;60;283748
+H2;150;30;154772
+C1;20;135;197764
+C2;80;140;206363
+"""
+CONTINUED = """Table 3;;;
+Stream;Tin, degC;Tout, degC;CP, kW/degC
+H1;170;60;3
+H2;150;30;1.5
+Table 3 (continued);;;
+Stream;Tin, degC;Tout, degC;CP, kW/degC
+C1;20;135;2
+C2;80;140;4
+"""
+SOURCES_AND_SINKS = """Stream;Type;Inlet Temperature;Outlet Temperature;Enthalpy change
+;;C;C;kW
+1;source;170;60;-330
+2;source;150;30;-180
+3;sink;20;135;230
+4;sink;80;140;240
+"""
+
+
+def merged() -> bytes:
+    """A workbook with merged headings, and with a merged word for the streams of each side."""
+    book = openpyxl.load_workbook(io.BytesIO(workbook(
+        [['Side', 'Stream', 'Temperature (°C)', None, 'CP (kW/K)'], [None, None, 'in', 'out', None],
+         ['hot', 'H1', 170, 60, 3], [None, 'H2', 150, 30, 1.5], ['cold', 'C1', 20, 135, 2], [None, 'C2', 80, 140, 4]])))
+    for cells in ('A1:A2', 'B1:B2', 'C1:D1', 'E1:E2', 'A3:A4', 'A5:A6'):
+        book.active.merge_cells(cells)
+    return saved(book)
+
+
+def untitled(name: str, head: list[object]) -> bytes:
+    """A workbook with the name that a spreadsheet gives its first sheet, and two sheets that are empty."""
+    book = openpyxl.load_workbook(io.BytesIO(workbook([head, ['H1', 170, 60, 3], ['H2', 150, 30, 1.5],
+                                                       ['C1', 20, 135, 2], ['C2', 80, 140, 4]])))
+    book.active.title = f'{name}1'
+    for number in (2, 3):
+        book.create_sheet(f'{name}{number}')
+    return saved(book)
+
+
+FEUIL = untitled('Feuil', ['Flux', 'T entrée (°C)', 'T sortie (°C)', 'Débit calorifique (kW/°C)'])
+TABELLE = untitled('Tabelle', ['Strom', 'Eintrittstemperatur in °C', 'Austrittstemperatur in °C',
+                               'Wärmekapazitätsstrom in kW/K'])
 TABLES = {
     'Smith, published': PlantTable(SMITH, 7500, 10_000),
     'Linnhoff and others, side by side, published': PlantTable(LINNHOFF, 20, 60),
@@ -140,4 +255,12 @@ TABLES = {
     'HYSYS': PlantTable(HYSYS, 960, 120), 'Aspen, units in a row': PlantTable(ASPEN, 20, 60, '10 K', 1),
     'German': PlantTable(GERMAN, 20, 60), 'French': PlantTable(FRENCH, 20, 60),
     'French symbols': PlantTable(FRENCH_SYMBOLS, 20, 60), 'Spanish': PlantTable(SPANISH, 20, 60),
-    'Italian': PlantTable(ITALIAN, 20, 60), 'workbook with a cover and utilities': PlantTable(BOOK, 20, 60)}
+    'Italian': PlantTable(ITALIAN, 20, 60), 'workbook with a cover and utilities': PlantTable(BOOK, 20, 60),
+    'on its side': PlantTable(SIDEWAYS, 20, 60), 'workbook on its side': PlantTable(SIDEWAYS_BOOK, 20, 60),
+    'two streams in a row': PlantTable(TWO_IN_A_ROW, 20, 60), 'T1 and T2': PlantTable(T1_T2, 20, 60),
+    'TE and TA': PlantTable(TE_TA, 20, 60), 'theta': PlantTable(THETA, 20, 60),
+    'steam by its mass': PlantTable(STEAM_BY_MASS, 1020, 60), 'decimal commas': PlantTable(COMMAS, 20, 60),
+    'notes and subtotals between': PlantTable(NOTES_BETWEEN, 20, 60), 'legend below': PlantTable(LEGEND, 20, 60),
+    'legend above': PlantTable(LEGEND_ABOVE, 20, 60, '10 K', 1), 'continued': PlantTable(CONTINUED, 20, 60),
+    'sources and sinks': PlantTable(SOURCES_AND_SINKS, 20, 60), 'merged cells': PlantTable(merged(), 20, 60),
+    'Feuil1': PlantTable(FEUIL, 20, 60), 'Tabelle1': PlantTable(TABELLE, 20, 60)}

@@ -100,6 +100,22 @@ def test_headings_that_are_not_enough_or_two_things_are_refused(head: str) -> No
     assert refusal(f'{head}\nH;150;60;2\nK;120;60;3\n')
 
 
+def test_columns_that_may_be_the_other_way_round_are_taken_where_a_stream_says_how_it_runs() -> None:
+    assert made('Name;T1;T2;CP\nH1;150;60;2\nFeed;20;60;3\n').case.streams[1].side.value == 'cold'
+    assert made('Name;Te;Ta;CP\nHot streams\nA;150;60;2\nCold streams\nB;20;60;3\n').case.streams[0].supply == 1500
+    assert made('Kind;Name;T1;T2;CP\nhot;A;150;60;2\n').case.streams[0].supply == 1500
+    assert 'H1 is hot, and would run the other way' in refusal('Name;T1;T2;CP\nH1;60;150;2\nFeed;20;60;3\n')
+    assert '`Te` and `Ta` may be supply and target, or others' in refusal('Name;Te;Ta;CP\nA;150;60;2\nB;20;60;3\n')
+
+
+def test_a_table_on_its_side_is_refused_by_its_places() -> None:
+    table = 'Stream;H1;C1\nSupply (°C);170;20\nTarget (°C);60;135\nCP (kW/K);3;{}\n'
+    assert 'row 4 column 3' in refusal(table.format('x'))
+    assert 'the table lies on its side: each of its columns is taken as a row' in made(table.format('2')).notes
+    sheet = understood_sheet(made(table.format('2')))
+    assert sheet.rows[1] == ('row 2 column 1', 'Supply (°C)', 'supply temperature', '°C')
+
+
 def test_masses_go_with_specific_and_latent_heats() -> None:
     masses = 'Name;m (t/h);cp (kJ/kg K);Tin;Tout\nH;7,2;4,2;150 °C;60 °C\n'
     assert [each.cp for each in made(masses).case.streams] == [840]

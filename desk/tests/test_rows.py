@@ -88,9 +88,18 @@ TITLES = ['ALL TEMPERATURES IN DEG F', 'ALL TEMPERATURES IN F', 'TEMPERATURES IN
           'Temperatures in F and duties in kW', 'TEMPERATURES IN °F', 'all temperatures: °F',
           'T [°F], Q [kW]', 'Temperaturen in °F']
 OPEN_TITLES = ['US units', 'all in SI units', 'temperatures in tenths of °C', 'Imperial Units', 'English units',
-               'Temp. F (old) or C', 'hot side in °F', 'temperatures in °F or in K']
+               'Temp. F (old) or C', 'hot side in °F', 'temperatures in °F or in K', 'Temp. F',
+               'Temperatures in K or °C', 'Temperatures in °C or K', 'units: °C or K',
+               'Temperature (°C/K)', 'Temperaturen in °C oder K',
+               'Températures en °C ou en K', 'T in °C or °F']
+KELVINS = ['TEMPERATURE / K', 'DEGREES KELVIN', 'units: K, kW', 'Temperatures in kelvins']
 HEATS = ['Duties in 1000 kcal/h', 'DUTIES IN 1000 KCAL/H', 'Heat loads: 10^3 kcal/h', 'Q [1000 kcal/h]',
          'Duties in 10³ kcal/h']
+# With a duty in them that is 1859.6 kW.
+OTHER_HEATS = [('10³ kcal/h', '1600'), ('10^6 Btu/h', '6.3452'), ('MMkcal/h', '1.6'), ('in 1e6 kcal/h', '1.6'),
+               ('DUTY IN MMBTU/HR', '6.3452'), ('HEAT IN GCAL/H', '1.6'), ('Duties in 1000 kW', '1.8596'),
+               ('duties in 10 kW', '185.96'), ('heat in KJ/H', '6694560'), ('heat in horsepower', '2493.76'),
+               ('BTUH', '6345300')]
 OPEN_HEATS = ['DUTIES IN MEGAWATTS', 'Duties in thousands', 'duty, 1 000 kcal/h', 'Wärme in 10 000 kcal/h', 'in HP',
               'duties in kcal/h and in 1000 kcal/h', 'US units', 'duties of the hot side in 1000 kcal/h']
 
@@ -109,6 +118,18 @@ def test_a_title_that_names_the_unit_of_all_temperatures_gives_it(title: str) ->
         assert any('is taken for numbers of temperature, as' in each for each in table.notes)
     for text in beside_numbers(title, head, row):
         assert REFUSED.search(refusal(text)), text
+
+
+@pytest.mark.parametrize('title', KELVINS)
+def test_a_title_that_names_kelvins_gives_them(title: str) -> None:
+    head, row = 'Stream;Supply;Target;CP (kW/K)', 'Feed;293.15;453.15;10'
+    for text in (f'{title};;;\n{head}\n{row}\n', f'{head}\n{row}\n{title};;;\n'):
+        assert [stream.supply for stream in made(text).case.streams] == [200], text
+
+
+@pytest.mark.parametrize('title, duty', OTHER_HEATS)
+def test_a_title_that_is_a_unit_of_heats_gives_it(title: str, duty: str) -> None:
+    assert streams(f'{title};;;\n{DUTY}Feed;20;180;{duty}\n', Wanted('10', decimal='.')) == FEED
 
 
 @pytest.mark.parametrize('title', OPEN_TITLES)

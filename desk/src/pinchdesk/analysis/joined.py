@@ -277,8 +277,8 @@ class Joiner:
                       if self.followed.ends[before.name][0].branch.name in mixed and segment.name in split
                       and segment.name not in self.gone]
             if places:
-                yield f'{whole.name} is mixed and split again at {enumerated(places)} {shown.temperature_unit}, as the ' \
-                      'program has it: an exchanger of a branch that goes on there is shown as two'
+                yield f'{whole.name} is mixed and split again at {enumerated(places)} {shown.temperature_unit}, as ' \
+                      'the program has it: an exchanger of a branch that goes on there is shown as two'
 
 
 def enumerated(texts: Iterable[str]) -> str:

@@ -17,7 +17,6 @@ from .cells import CellReader, Told, decimal_mark
 from .conversion import Converted as Converted
 from .conversion import Wanted as Wanted
 from .doubts import as_case, doubts_of
-from .headings import known
 from .heating_curve import with_curves
 from .making import Maker
 from .names import fit_names
@@ -28,6 +27,7 @@ from .sheets import chosen_sheets
 from .sources import Entries
 from .spreadsheet import Cell, Table, is_workbook, read_table
 from .title_units import told_of, with_said
+from .turning import headings, upright
 from .vocabulary import Heading
 from .without_headings import check_order, plain_line
 
@@ -45,6 +45,7 @@ def case_of_table(content: bytes, name: str, wanted: Wanted) -> Converted:
     if is_case(content) or any(is_case(rows) for table in tables for rows in as_case(table)):
         raise Refused(3, '', 'a case already', 'this is a case already, in tenths of °C, 10 W/K and W: it needs no '
                       'conversion, but commas between its fields. If it is a table in °C, give it headings')
+    tables = upright(tables)
     best = max(headings(table) for table in tables)
     if best > 1:
         tables = tuple(table for table in tables if headings(table) == best)
@@ -58,10 +59,6 @@ def is_case(content: bytes) -> bool:
     except Refused as fault:
         return fault.cause in ('comment', 'segment')
     return True
-
-
-def headings(table: Table) -> int:
-    return max((known(row) for row in table.rows), default=0)
 
 
 def tables_converted(tables: Sequence[Table], wanted: Wanted) -> Converted:
@@ -85,6 +82,8 @@ def converted(table: Table, wanted: Wanted) -> Converted:
     told = Told(table)
     if not table.rows:
         raise Refused(3, '', 'empty', 'the table is empty')
+    if table.turned:
+        told.once('the table lies on its side: each of its columns is taken as a row')
     blocks = blocks_of(table)
     body = body_of(blocks, told, () if blocks.headed else [plain_line(row, told) for row in table.rows])
     blocks, said = with_said(blocks, body)

@@ -6,6 +6,7 @@ from __future__ import annotations
 
 import csv
 import io
+import re
 from collections.abc import Iterable, Mapping, Sequence
 
 from ..formats.case import Side
@@ -17,6 +18,8 @@ from .rows import Body, Line, shortened
 from .spreadsheet import Table, TableRow
 from .unit_mentions import names_other_unit
 from .units import Kind, is_unit, same_unit
+from .vocabulary import Heading
+from .without_headings import RUNS
 
 CASE_FIELDS = 7
 
@@ -121,6 +124,33 @@ def below_titles(lines: Sequence[Line], sides: Mapping[int, Side], told: Told) -
         elif side and section.side and side is not section.side:
             way = 'cools down' if side is Side.HOT else 'warms up'
             told.fault(line.row.number, None, f'below `{shortened(section.text)}` stands a stream that {way}')
+
+
+def open_pairs(lines: Sequence[Line], sides: Mapping[int, Side], told: Told) -> None:
+    """Tells a fault for columns that may be supply and target, or the other way round, where no stream says which way
+    it runs, and for each stream that says another one than its numbers; `sides` has the side of each by its line."""
+    says: dict[tuple[str, str], list[str]] = {}
+    for line in lines:
+        pair, side = line.layout.open_pair, sides.get(id(line))
+        if pair is None or side is None:
+            continue
+        said = said_side(line)
+        says.setdefault(pair, []).append(said)
+        if said not in ('', side.value):
+            told.fault(line.row.number, line.at(Heading.SUPPLY), f'{line.name()} is {said}, and would run the other '
+                       f'way from `{pair[0]}` to `{pair[1]}`: give other headings')
+    for pair in (pair for pair, said in says.items() if not any(said)):
+        head = next(line for line in lines if line.layout.open_pair == pair)
+        told.fault(head.layout.head, head.at(Heading.SUPPLY), f'`{pair[0]}` and `{pair[1]}` may be supply and target, '
+                   'or others: say in a column `kind` which streams are hot, or give other headings')
+
+
+def said_side(line: Line) -> str:
+    """What a row, its title or its name (`H1`) says of its side; empty where none does."""
+    section = line.section.side.value if line.section and line.section.side else ''
+    numbered = re.search('[0-9]', line.name())
+    named = next((side for side, name in RUNS.items() if numbered and name.fullmatch(line.name())), '')
+    return line.kind or section or named
 
 
 def as_case(table: Table) -> tuple[bytes, ...]:

@@ -11,7 +11,7 @@ from .headings import (EMPTY, KINDS, Words, bracketed, fits, has_unit, heading_o
 from .sections import Section, kind_of, section_of
 from .spreadsheet import Table, TableRow
 from .units import Kind, is_multiple, is_unit
-from .vocabulary import PAIRS, WARM, Heading, squeezed
+from .vocabulary import OPEN_PAIRS, PAIRS, WARM, Heading, squeezed
 
 # What the title over several columns is about.
 ABOUT = {Kind.TEMPERATURE: re.compile(r'temp|supply|target|inlet|outlet|\bT\b|°', re.I),
@@ -36,7 +36,8 @@ class Layout:
     """The columns of a block with the units that the table gives them, the numbers of the rows of its head, and the
     words there that are neither headings nor units of a number; `named` is False where the numbers of the streams
     stand in for names, `twins` has columns that say the same in another unit, `section` what the heading of the names
-    says of the streams; `curve` where its rows are points of heating curves."""
+    says of the streams, `open_pair` the titles of a supply and a target that may be the other way round; `curve` where
+    its rows are points of heating curves."""
 
     columns: Mapping[Heading, int] = field(default_factory=dict)
     units: Mapping[int, str] = field(default_factory=dict)
@@ -47,6 +48,7 @@ class Layout:
     twins: Mapping[int, Heading] = field(default_factory=dict)
     section: Section | None = None
     curve: bool = False
+    open_pair: tuple[str, str] | None = None
 
     @property
     def headed(self) -> bool:
@@ -137,7 +139,13 @@ class Draft:
                   if column in self.titles and column not in measured and column in columns.values()]
         section = section_of(self.titles.get(columns[Heading.NAME], ''))
         return Layout(columns, self.units, self.titles, tuple(self.heads), (*beside, *self.beside), named, twins,
-                      section, self.is_curve(range(max(self.titles, default=0) + 1)))
+                      section, self.is_curve(range(max(self.titles, default=0) + 1)), self.open_pair(columns))
+
+    def open_pair(self, columns: Mapping[Heading, int]) -> tuple[str, str] | None:
+        """The titles of supply and target, where these may be the other way round."""
+        titles = [self.titles.get(columns.get(heading, -1), '') for heading in (Heading.SUPPLY, Heading.TARGET)]
+        names = tuple(named_with_unit(title)[0] for title in titles)
+        return (titles[0], titles[1]) if names in OPEN_PAIRS else None
 
     def within(self, group: range) -> Draft:
         """The head of the columns of one block."""

@@ -14,7 +14,7 @@ from ..formats.shown import Shown, decimal
 from .blocks import Blocks
 from .cells import CellReader, Told
 from .conversion import Converted, Wanted
-from .doubts import below_titles, note_words, two_units, units_in_words
+from .doubts import below_titles, note_words, open_pairs, two_units, units_in_words
 from .least_difference import half, is_bare, said_difference
 from .own_units import ExactNumbers, in_own_units
 from .prices import PriceFault, PriceUnit, Priced, priced
@@ -89,7 +89,9 @@ class Maker:
         self.entries.check_signs()
         self.entries.check_scale()
         self.check_counts()
-        below_titles(body.lines, {id(line): side for line, side in self.stream_lines}, self.told)
+        sides = {id(line): side for line, side in self.stream_lines}
+        below_titles(body.lines, sides, self.told)
+        open_pairs(body.lines, sides, self.told)
         self.told.settle()
 
     def check_counts(self) -> None:

@@ -8,7 +8,7 @@ from dataclasses import dataclass, replace
 
 from .blocks import Blocks, TableBlock
 from .cells import Told
-from .headings import EMPTY, KINDS, Words, heading_of, is_comment, is_number
+from .headings import EMPTY, KINDS, Words, bracketed, heading_of, is_comment, is_number, squeezed
 from .layouts import Layout
 from .numbers import NoNumber, numeral_of
 from .sections import Section, kind_of, kind_of_name, section_of
@@ -17,14 +17,15 @@ from .units import Kind
 from .vocabulary import Heading
 
 SUM_WORDS = r'(?:sum|sums|total|totals|subtotal|summe|gesamt|gesamtsumme|insgesamt|somme|suma|somma|totale|totaux|' \
-            r'grand\s+total|average|mean|mittel|mittelwert|durchschnitt|moyenne|media|promedio)'
+            r'grand\s+total|average|mean|mittel|mittelwert|durchschnitt|moyenne|media|promedio|net|balance|imbalance|' \
+            r'saldo|bilanz|bilan|bilancio)'
 SUM = re.compile(rf'{SUM_WORDS}\b.*|[Σ∑].*', re.I)
 # Such a name alone is hardly that of a stream, also where temperatures stand with it.
 SUM_ALONE = re.compile(rf'(?:{SUM_WORDS}|min|max|minimum|maximum|[Σ∑])[\s.:]*', re.I)
 # What a spreadsheet writes in place of a value.
 ERROR = re.compile(r'#[A-Z0-9/]+[!?]|#N/A|#NV')
 LONGEST = 120
-BESIDE_HEADING = 'beside a heading'
+BESIDE_HEADING, LEGEND = 'beside a heading', 'a legend'
 
 
 @dataclass(frozen=True)
@@ -256,6 +257,8 @@ def why_passed(line: Line, told: Told, below: bool) -> str:
         return 'a note'
     if line.kind in ('contribution', 'forbid'):
         return ''
+    if is_legend(line):
+        return LEGEND
     if not line.name() and below and is_sum_beside(line):
         return 'a sum'
     if not (line.cell(Heading.SUPPLY).empty and line.cell(Heading.TARGET).empty):
@@ -270,6 +273,16 @@ def why_passed(line: Line, told: Told, below: bool) -> str:
                    'the heading, and a sum below the streams')
         return ''
     return 'a sum'
+
+
+def is_legend(line: Line) -> bool:
+    """Whether a row says in words what the heading of a column is."""
+    cells = [cell for _, cell in line.row.filled()]
+    if len(cells) < 2 or any(is_number(cell) or cell.fault for cell in cells):
+        return False
+    titles = {squeezed(part) for column, title in line.layout.titles.items() if column in line.columns.values()
+              for part in (title, (bracketed(title) or (title,))[0])}
+    return squeezed(cells[0].text) in titles
 
 
 def is_sum_beside(line: Line) -> bool:

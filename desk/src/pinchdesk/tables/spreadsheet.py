@@ -72,7 +72,8 @@ class Table:
     """The rows of a table that are not empty. `sheet` is the name of the sheet, and empty of a text, which has a
     `separator`; `merged` has the columns that a merged cell covers, by its row and its first column, `hidden` those
     that are not shown, each with the number of its sheet, `others` the sheets that are shown beside it. Of several
-    sheets the rows of the second one are counted from `SHEET_ROWS` on, and so on; `more` has their names."""
+    sheets the rows of the second one are counted from `SHEET_ROWS` on, and so on; `more` has their names. Where it is
+    `turned` its rows are the columns of the file."""
 
     sheet: str
     rows: tuple[TableRow, ...]
@@ -82,6 +83,7 @@ class Table:
     others: tuple[str, ...] = ()
     more: tuple[str, ...] = ()
     first: bool = True
+    turned: bool = False
 
     def sheet_of(self, row: int) -> str:
         """The sheet on which a row stands."""
@@ -93,10 +95,18 @@ class Table:
 
     def place(self, row: int, column: int | None = None) -> str:
         """A place in words: `sheet Streams row 4 column C`."""
+        if self.turned:
+            return self.turned_place(row, column)
         where = f'sheet {self.sheet_of(row)} row {row % SHEET_ROWS}' if self.sheet else f'row {row}'
         if column is None:
             return where
         return f'{where} column {letters(column)}' if self.sheet else f'{where} column {column + 1}'
+
+    def turned_place(self, row: int, column: int | None) -> str:
+        """The place in the file of one that is turned."""
+        where = f'column {letters(row - 1)}' if self.sheet else f'column {row}'
+        sheet = f'sheet {self.sheet} ' if self.sheet else ''
+        return sheet + (where if column is None else f'row {column + 1} {where}')
 
     def refusal(self, row: int, column: int | None, cause: str) -> Refused:
         place = self.place(row, column)

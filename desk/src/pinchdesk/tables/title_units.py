@@ -8,7 +8,7 @@ from dataclasses import replace
 from .blocks import Blocks, TableBlock
 from .headings import Words, bracketed
 from .layouts import Layout
-from .rows import BESIDE_HEADING, Body, shortened
+from .rows import BESIDE_HEADING, LEGEND, Body, shortened
 from .spreadsheet import SHEET_ROWS
 from .units import Kind, is_multiple, same_unit, unit_or_none
 from .vocabulary import words
@@ -22,9 +22,9 @@ ABOUT = {
     Kind.HEAT: 'heat heats duty duties load loads q enthalpy enthalpies dh power warme warmestrom warmestrome leistung '
                'leistungen puissance puissances chaleur carga cargas calor carico carichi potenza potenze potencia h'}
 BESIDE = frozenset('all in are is the given values numbers units unit and und et y e einheiten alle unites unidades '
-                   'unita as expressed data stream figures sind en'.split())
+                   'unita as expressed data stream figures sind en legend legende leyenda legenda key'.split())
 # Why rows are passed over that may say a unit of all numbers.
-SAYING = ('a note', 'a comment', 'above the headings')
+SAYING = ('a note', 'a comment', 'above the headings', LEGEND)
 CLAUSE = re.compile(r'[;\n]|,\s|\s(?:and|und|et|y|e|&)\s|(?<=\w)\.\s', re.I)
 LONGEST = 200
 

@@ -26,7 +26,10 @@ LETTER = r'(?i:[°º˚]\s*{0}\b|\bdeg(?:rees?|s)?\.?\s*{0}\b|\bgrad\s+{0}\b)|' \
 FAHRENHEIT = r'(?i:fahrenheit|rankine|℉|[°º˚]\s*r\b|\bdeg(?:rees?)?\.?\s*r\b)|' + LETTER.format('[Ff]', BEFORE)
 KELVIN = r'(?i:\bkelvins?\b)|' + LETTER.format('[Kk]', BEFORE)
 OTHER_HEAT = rf'{ALONE}(?:{ENERGY}|{WATTS})|{TIMES}(?:{ENERGY}|(?i:\b[kmgt]?w\b|\b[a-z]*watts?\b))|{SYSTEMS}'
-SAID = {Kind.TEMPERATURE: re.compile(rf'{ALONE}(?:{FAHRENHEIT}|{KELVIN})|{SYSTEMS}|{PARTS}'),
+# Two units of which either may be meant: `°C or K`, `°C/K`.
+EITHER = r'(?i:(?:[°º˚]\s*|\bdeg(?:rees?)?\.?\s*)C|\bcelsius)\s*(?:,?\s*\b(?i:or|oder|ou|o|bzw\.?)\s+|/\s*)' \
+         r'(?i:(?:in|en)\s+)?(?:[°º˚]\s*)?(?:[FKR]\b|(?i:kelvins?|fahrenheit)\b)'
+SAID = {Kind.TEMPERATURE: re.compile(rf'{ALONE}(?:{FAHRENHEIT}|{KELVIN})|{SYSTEMS}|{PARTS}|{EITHER}'),
         Kind.DIFFERENCE: re.compile(rf'{ALONE}(?:{FAHRENHEIT})|{SYSTEMS}|{PARTS}'),
         Kind.FLOW: re.compile(rf'{OTHER_HEAT}|{ALONE}(?:{FAHRENHEIT})|{PARTS}'),
         Kind.HEAT: re.compile(rf'{OTHER_HEAT}|{PARTS}')}

@@ -73,8 +73,10 @@ SYMBOLS = {'c': (Heading.CP,), 'h': (Heading.FILM, Heading.LOAD), 'w': (Heading.
 # Headings that are one thing in one language and another in the next: their partner says which.
 PAIRS: dict[tuple[str, str], tuple[Heading, Heading]] = {
     (first, second): (Heading.SUPPLY, Heading.TARGET)
-    for first, second in (('te', 'ts'), ('ti', 'tf'), ('ti', 'to'), ('ti', 'tu'), ('tini', 'tfin'), ('tv', 'tr'),
-                          ('tvl', 'trl'), ('vl', 'rl'))}
+    for first, second in (('te', 'ts'), ('te', 'ta'), ('t1', 't2'), ('ti', 'tf'), ('ti', 'to'), ('ti', 'tu'),
+                          ('tini', 'tfin'), ('tv', 'tr'), ('tvl', 'trl'), ('vl', 'rl'))}
+# Pairs that may also be two other things, or the other way round, unless a stream says which way it runs.
+OPEN_PAIRS = (('te', 'ta'), ('t1', 't2'))
 # Of how many words a heading is at most, and how many signs of a text are looked at.
 LONGEST_WORDS, LONGEST_TEXT = 8, 400
 
@@ -92,7 +94,7 @@ def words(text: str) -> list[str]:
 @lru_cache(maxsize=4096)
 def words_of(text: str) -> tuple[str, ...]:
     plain = unicodedata.normalize('NFKD', text.replace('Δ', 'd').replace('∆', 'd').replace('ß', 'ss')
-                                  .replace('°', ' ').replace('·', ' ')).lower()
+                                  .replace('°', ' ').replace('·', ' ')).lower().replace('θ', 't')
     letters = ''.join(sign if sign.isalnum() else '' if unicodedata.combining(sign) else ' ' for sign in plain)
     return tuple(letters.split())
 
