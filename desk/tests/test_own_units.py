@@ -16,6 +16,7 @@ from plant_tables import SEIDER, TABLES
 from tabled import made, refusal
 
 from pinchdesk import Pinch, Refused, WordsError
+from pinchdesk import read as pinchdesk_read
 from pinchdesk.analysis.change_table import read_changes
 from pinchdesk.analysis.sweep_request import asked_range
 from pinchdesk.formats.case import completed, print_case, read_case, said_in_si
@@ -156,3 +157,14 @@ def test_every_word_that_shows_targets_has_the_published_ones(words: str, tmp_pa
     in_si = pinchdesk(word, 'seider.csv', *more, '--units', 'SI', cwd=tmp_path)
     # Prices without a unit are those of the table's unit of heats.
     assert in_si.status == 0 and not re.search('°F|(?<!per )(?<!times )Btu', in_si.out), in_si.out
+
+
+def test_a_notebook_has_a_plant_in_its_own_units() -> None:
+    plant = pinchdesk_read(SEIDER.encode(), 'seider.csv', difference='10 °F', units='table')
+    targets = plant.targets()
+    assert (str(targets.hot_kw), str(targets.cold_kw)) == ('146.536', '175.843')
+    assert targets.exact.pinches_c == (Fraction(85),) and '500000' in str(targets)
+    assert plant.sweep('10 °F', '20 °F', '10 °F').points[0].exact.difference_k == Fraction(50, 9)
+    assert '146.5356  kW' in str(plant.in_si().targets())
+    again = pinchdesk_read(plant.text.encode(), 'seider-case.csv')
+    assert again.notes == ('read as a case file, in its own units, °F and Btu/hr',)
