@@ -24,7 +24,7 @@ DECLARED = (
     Option('tolerance', 'how far the segments of a stream may be from its heating curve, in K, on the safe side (0 '
            'unless given)', ('--tolerance',), default='0', metavar='K'),
     Option('hours', 'the operating hours a year: costs are then per year', ('--hours',), metavar='H'),
-    Option('units', 'SI, or `table`: exact in the units of the table, for `targets` and `flow`', ('--units',),
+    Option('units', 'SI, or `table`: exact in the units of the table, which all words then show', ('--units',),
            default='SI', choices=('SI', 'table')),
     Option('show', 'shows in place of the case how the table was understood', ('--show',), default=False, switch=True))
 # How long what is said of a case is in a table of many.
