@@ -76,7 +76,7 @@ def step_of(heading: str) -> Fraction:
 def shape(text: str) -> str:
     """A text without its numbers and units."""
     units = '|'.join(map(re.escape, FIXED))
-    return re.sub(rf'-?\d+(\.\d+)?( \(\d+/\d+\))?|(?<![\w/])(?:{units})(?![\w/])', '#', text)
+    return re.sub(rf'[−-]?\d[\d\u202f]*(\.\d+)?( \(\d+/\d+\))?|(?<![\w/])(?:{units})(?![\w/])', '#', text)
 
 
 def check_own(one: Parts, same: Parts, style: Style) -> None:
