@@ -373,7 +373,7 @@ def test_a_case_in_units_of_its_own_has_the_same_area(pinch: Pinch) -> None:
         elif row[0] == 'contribution':
             row[2] = str(int(row[2]) * 18 // 10)
     text = ''.join(f'{",".join(row)}\n' for row in [['#units', '°F', 'Btu/h', '65941/225000', '10', '0', '1'], *rows])
-    case = completed(read_case(text, own_units=True))
+    case = completed(read_case(text))
     flow = pinch.uses(case)
     assert isinstance(flow, HeatFlow)
     data, uses = CostData(case), {use.name: use.heat for use in flow.uses}

@@ -151,7 +151,7 @@ def test_the_least_difference_of_a_case_in_its_own_units_is_in_these(tmp_path: P
                                     'H;260;160;30000;\nC;120;235;20000;15\n')
     words = ('case', '-d', '18 °F', '--units', 'table', 't.csv', '-o', 'c.csv')
     assert pinchdesk(*words, cwd=tmp_path).status == 0
-    told = difference_told(read_case((tmp_path / 'c.csv').read_bytes(), own_units=True))
+    told = difference_told(read_case((tmp_path / 'c.csv').read_bytes()))
     assert told == '18 °F, by -d 18 °F: each stream and utility contributes 9 °F, but C 15 °F'
 
 

@@ -175,7 +175,7 @@ def rule_of(pinch: Pinch, case: Case, text: Case | bytes) -> int:
 
 def completed_live(text: str) -> Case:
     """A case in its own units, completed; a case without a stream has nothing that could stand in."""
-    case = read_case(text, own_units=True)
+    case = read_case(text)
     return completed(case) if case.streams else case
 
 
