@@ -14,6 +14,7 @@ pytest.importorskip('selenium', reason='no selenium to lead a browser')
 pytest.importorskip('uvicorn', reason='no uvicorn to serve the page')
 
 from selenium.webdriver import ActionChains, Chrome  # noqa: E402
+from selenium.webdriver.common.actions.action_builder import ActionBuilder  # noqa: E402
 from selenium.webdriver.common.by import By  # noqa: E402
 from selenium.webdriver.common.keys import Keys  # noqa: E402
 
@@ -305,6 +306,34 @@ def test_a_search_goes_on_from_here_and_pictures_open_beside(page: LivePage, des
         kinds = page.driver.execute_async_script(
             'fetch(arguments[0]).then(answer => answer.text()).then(arguments[arguments.length - 1])', link)
         assert words.lower() in str(kinds).lower()
+
+
+SCROLLED = '''const at = document.querySelector("#grid .wide");
+return at.scrollTop + at.clientHeight > at.scrollHeight - 2'''
+
+
+@pytest.mark.long
+def test_a_drag_reaches_what_is_out_of_sight(driver: Chrome, tmp_path: Path) -> None:
+    """A large diagram scrolls inside, and by itself where something is dragged to its edge."""
+    shutil.copy(EXAMPLES / 'crude.csv', tmp_path)
+    desk = open_desk(tmp_path / 'crude.csv', tmp_path / 'network.txt')
+    try:
+        page = LivePage(driver).go(desk.address)
+        bottom = driver.execute_script('return document.querySelector("#grid .wide").getBoundingClientRect().bottom')
+        assert page.middle(page.piece('CR1', '32550'))[1] > bottom
+        _, y = page.middle(page.piece('KERO', '4620'))
+        ActionChains(driver, duration=20).move_to_element(page.piece('KERO', '4620')).click_and_hold() \
+            .move_by_offset(0, 20).move_by_offset(0, int(bottom - 8 - y - 20)).perform()
+        page.until(lambda: bool(driver.execute_script(SCROLLED)))
+        x, y = page.middle(page.piece('CR1', '32550'))
+        assert y < bottom - 60
+        chain = ActionBuilder(driver)
+        chain.pointer_action.move_to_location(int(x), int(y)).pointer_up()
+        chain.perform()
+        page.until(lambda: len(page.exchangers()) == 1)
+    finally:
+        driver.get('about:blank')
+        desk.kill()
 
 
 @pytest.mark.long

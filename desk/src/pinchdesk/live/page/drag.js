@@ -8,6 +8,8 @@ import { draw, make, part } from './dom.js';
 
 /** So far a hand moves that only wants to press. */
 const STILL = 5;
+/** So near to an edge, in pixels, the diagram scrolls, and so far with each picture of the screen. */
+const EDGE = 36, STEP = 9;
 
 /**
  * @typedef {object} Pull
@@ -56,15 +58,20 @@ export class Drag {
       pointer: event.pointerId, moving: false, line: null, target: null,
     };
     if (piece) this.part.actions.offer(this.pull.name);
-    picture.addEventListener('pointermove', this.moved);
-    picture.addEventListener('pointerup', this.dropped);
-    picture.addEventListener('pointercancel', this.cancelled);
+    window.addEventListener('pointermove', this.moved);
+    window.addEventListener('pointerup', this.dropped);
+    window.addEventListener('pointercancel', this.cancelled);
   }
 
   /** @param {PointerEvent} event */
   moved = event => {
     const { pull } = this, { picture } = this.part;
     if (!pull || !picture || event.pointerId !== pull.pointer) return;
+    // It was let go where nothing of it was heard.
+    if (!event.buttons) {
+      this.stop();
+      return;
+    }
     if (!pull.moving) {
       if (Math.hypot(event.clientX - pull.down.x, event.clientY - pull.down.y) < STILL) return;
       pull.moving = true;
@@ -73,31 +80,45 @@ export class Drag {
       pull.line = draw('line', { class: 'pull', x1: pull.from.x, y1: pull.from.y });
       picture.append(pull.line);
       picture.classList.add('dragging');
+      requestAnimationFrame(this.roll);
       this.part.mark(this.part.actions.state);
     }
-    this.aim(event);
+    this.aim({ x: event.clientX, y: event.clientY });
+  };
+
+  /** Near an edge of the diagram it scrolls, so that what is out of sight can be reached. */
+  roll = () => {
+    const wide = this.part.panel.querySelector('.wide'), { pull } = this;
+    if (!pull || !pull.moving || !wide) return;
+    const frame = wide.getBoundingClientRect(), { x, y } = pull.now;
+    /** @type {(at: number, from: number, to: number) => number} */
+    const push = (at, from, to) => at < from + EDGE ? -STEP : at > to - EDGE ? STEP : 0;
+    const before = [wide.scrollLeft, wide.scrollTop];
+    wide.scrollBy(push(x, frame.left, frame.right), push(y, frame.top, frame.bottom));
+    if (wide.scrollLeft !== before[0] || wide.scrollTop !== before[1]) this.aim(pull.now);
+    requestAnimationFrame(this.roll);
   };
 
   /**
    * The dotted line to the pointer or to what is below it, and what would come of a drop there.
-   * @param {PointerEvent} event
+   * @param {{x: number, y: number}} at in the window
    */
-  aim(event) {
+  aim(at) {
     const { pull } = this, { picture } = this.part;
     if (!pull || !pull.line || !picture) return;
-    const target = this.targetAt(event.clientX, event.clientY);
+    const target = this.targetAt(at.x, at.y);
     if (pull.target !== target) {
       pull.target?.classList.remove('aimed');
       target?.classList.add('aimed');
       pull.target = target;
     }
     const frame = picture.getBoundingClientRect();
-    const free = { x: event.clientX - frame.left, y: event.clientY - frame.top };
+    const free = { x: at.x - frame.left, y: at.y - frame.top };
     const shape = target?.matches('[data-piece]') ? target.querySelector('rect') : null;
     const to = shape ? middleOf(shape) : free;
     pull.line.setAttribute('x2', String(to.x));
     pull.line.setAttribute('y2', String(to.y));
-    pull.now = { x: event.clientX, y: event.clientY };
+    pull.now = at;
     this.tell();
   }
 
@@ -143,7 +164,7 @@ export class Drag {
     const { pull } = this;
     if (!pull || event.pointerId !== pull.pointer) return;
     if (pull.moving) {
-      this.aim(event);
+      this.aim({ x: event.clientX, y: event.clientY });
       performance.mark('dropped');
     }
     const { moving, target } = pull;
@@ -169,13 +190,13 @@ export class Drag {
     const { pull } = this, { picture } = this.part;
     this.pull = null;
     this.hint.hidden = true;
+    window.removeEventListener('pointermove', this.moved);
+    window.removeEventListener('pointerup', this.dropped);
+    window.removeEventListener('pointercancel', this.cancelled);
     if (!pull || !picture) return;
     pull.line?.remove();
     pull.target?.classList.remove('aimed');
     picture.classList.remove('dragging');
-    picture.removeEventListener('pointermove', this.moved);
-    picture.removeEventListener('pointerup', this.dropped);
-    picture.removeEventListener('pointercancel', this.cancelled);
     if (picture.hasPointerCapture(pull.pointer)) picture.releasePointerCapture(pull.pointer);
     this.part.mark(this.part.actions.state);
   }

@@ -35,7 +35,7 @@ export class GridPart {
     this.keys = new GridKeys(this);
     this.drag = new Drag(this);
     this.room = panel.clientWidth;
-    this.scrolled = 0;
+    this.scrolled = { left: 0, top: 0 };
     new ResizeObserver(() => this.resized()).observe(panel);
   }
 
@@ -53,6 +53,11 @@ export class GridPart {
     this.mark(this.actions.state);
   }
 
+  /** @param {HTMLElement} wide */
+  remember(wide) {
+    this.scrolled = { left: wide.scrollLeft, top: wide.scrollTop };
+  }
+
   /** @param {State} state */
   redraw(state) {
     const { view } = state;
@@ -65,11 +70,12 @@ export class GridPart {
     const focused = this.panel.contains(document.activeElement);
     this.at = new Geometry(view.grid, this.room - PADDING);
     this.picture = this.drawn(view.grid, this.at);
-    const wide = make('div', { class: 'wide', scroll: () => { this.scrolled = wide.scrollLeft; } },
+    /** @type {HTMLElement} */
+    const wide = make('div', { class: 'wide', scroll: () => this.remember(wide) },
       namesPicture(view.grid, this.at), this.picture);
     fill(this.panel, view.read_only && make('p', { class: 'note' }, view.read_only), wide);
     // Nothing is asked of the layout here unless it must be: that would cost more than all the drawing.
-    if (this.scrolled) wide.scrollLeft = this.scrolled;
+    if (this.scrolled.left || this.scrolled.top) wide.scrollTo(this.scrolled);
     this.keys.renew(this.picture, focused);
   }
 
