@@ -66,7 +66,7 @@ def searched(pinch: Pinch, name: str, jobs: int, seed: int = 1, forbid: str = ''
 
 @pytest.mark.parametrize('name', few_of(FEW, ('four-stream', 'preheater')))
 def test_few_exchangers_in_a_few_jobs(pinch: Pinch, name: str) -> None:
-    found = searched(pinch, name, of_all(20, 40))
+    found = searched(pinch, name, 40)
     assert found and found[-1].count <= FEW[name]
     for judged in found:
         assert judged.cost == judged.verdict.floor

@@ -26,7 +26,7 @@ def supertarget_figure(found: Supertarget) -> Figure:
         if found.without:
             axes.plot([float(difference) for difference, _ in found.without], [0] * len(found.without), 'x', color=INK,
                       markersize=7, label='no cost there', clip_on=False)
-        put_least(axes, found)
+        put_least(axes, found, shown)
         put_area(axes.twinx(), found, across)
         money = said(found.data.capital.currency)
         entitled(axes, f'least difference in {shown.difference_unit}', f'{money} a year',
