@@ -10,8 +10,6 @@ from ..formats.case_units import CaseUnits
 from ..formats.shown import decimal, is_rounded
 from ..program.answers import Cut, SweepRow
 from ..program.run import CaseText, Pinch
-from ..tables.numbers import numeral_of
-from ..tables.units import Kind, unit_of
 
 # The limits of the program: of a contribution in steps of the case, of rows, of workers.
 MOST_CONTRIBUTION, MOST_ROWS, MOST_WORKERS = 1000, 1000, 16
@@ -23,6 +21,9 @@ def steps_of(text: str, units: CaseUnits | None) -> Fraction:
     number = text.replace(',', '.')
     if units is None:
         return exact(number) * CaseUnits().steps
+    # Most words take no unit, and load no tables.
+    from ..tables.numbers import numeral_of
+    from ..tables.units import Kind, unit_of
     numeral = numeral_of(number)
     value = Fraction(numeral.value('.'))
     if numeral.unit:
