@@ -67,11 +67,11 @@ def test_curves_show_targets_and_pinches_on_both_scales(name: str, pinch: Pinch)
     figure, case, targets = curves(pinch, content), read_case(content), pinch.targets(content)
     assert_readable(figure)
     shown, texts = Shown(case.basis), ' '.join(svg_texts(figure))
-    for each in (targets.hot, targets.cold):
-        assert f'{shown.heat(each)} kW' in texts
-    for each in targets.pinches:
-        assert f'pinch {shown.temperature(each)} °C' in texts
-        hot, cold = (temperatures_at(case, side, each).told(shown) for side in (Side.HOT, Side.COLD))
+    for target in (targets.hot, targets.cold):
+        assert f'{shown.heat(target)} kW' in texts
+    for pinch_level in targets.pinches:
+        assert f'pinch {shown.temperature(pinch_level)} °C' in texts
+        hot, cold = (temperatures_at(case, side, pinch_level).told(shown) for side in (Side.HOT, Side.COLD))
         assert f'hot {hot} °C, cold {cold} °C' in texts
 
 
@@ -95,13 +95,13 @@ def test_a_pinch_is_where_it_is(content: bytes, hot: tuple[str, float], cold: tu
     drawn = answered(pinch, content)
     [place] = drawn.pinches
     sheet = targets_sheets(drawn.case, drawn.targets)[1]
-    assert [str(each) for each in sheet.rows[0]] == [drawn.shown.temperature(place.temperature), hot[0], cold[0]]
+    assert [str(cell) for cell in sheet.rows[0]] == [drawn.shown.temperature(place.temperature), hot[0], cold[0]]
     # Both sides have the same heat below it, and there it is drawn, with the curves as far apart as printed.
     heat = drawn.below(Side.HOT, place)
     assert heat == drawn.below(Side.COLD, place)
     [line] = lines_named(curves(pinch, content).axes[0], 'pinch')
-    assert [each[0] * 1000 for each in line] == [heat, heat]
-    assert [each[1] for each in line] == [hot[1], cold[1]]
+    assert [point[0] * 1000 for point in line] == [heat, heat]
+    assert [point[1] for point in line] == [hot[1], cold[1]]
 
 
 def test_a_vapour_below_its_pinch_has_it_at_its_end(pinch: Pinch) -> None:
@@ -119,8 +119,8 @@ def test_balanced_curves_begin_and_end_together(name: str, pinch: Pinch) -> None
     figure = balanced_figure(case, drawn.targets, drawn.curves, flow)
     hot, cold = (line_of(figure.axes[0], f'{side.value} streams') for side in Side)
     assert hot[0][0] == cold[0][0] == 0 and hot[-1][0] == cold[-1][0]
-    heats = [sum(each.heat for each in case.streams if each.side is side)
-             + sum(flow.use(each.name) for each in case.utilities if each.side is side) for side in Side]
+    heats = [sum(stream.heat for stream in case.streams if stream.side is side)
+             + sum(flow.use(utility.name) for utility in case.utilities if utility.side is side) for side in Side]
     assert heats[0] == heats[1] == hot[-1][0] * 1000
 
 
@@ -136,20 +136,21 @@ def test_plain_curves_begin_at_the_target_and_have_no_utilities(pinch: Pinch) ->
 def assert_stands(drawn: Drawn) -> None:
     """The utilities stand left of the grand curve at each temperature, and the hot balanced curve above the cold
     one."""
-    net = {each.temperature: (each.heat, each.heat) for each in drawn.curves.net}
-    for each in drawn.curves.net:
-        net[each.temperature] = min(net[each.temperature][0], each.heat), max(net[each.temperature][1], each.heat)
+    net = {point.temperature: (point.heat, point.heat) for point in drawn.curves.net}
+    for point in drawn.curves.net:
+        net[point.temperature] = (min(net[point.temperature][0], point.heat),
+                                  max(net[point.temperature][1], point.heat))
     spans = stairs(drawn)
     # Just above and just below a temperature.
-    for temperature in {*net, *(each.temperature for each in spans)}:
+    for temperature in {*net, *(span.temperature for span in spans)}:
         for upto in (True, False):
-            at = drawn.targets.hot + sum((each.last - each.first) for each in spans if each.temperature > temperature
-                                         or not upto and each.temperature == temperature)
+            at = drawn.targets.hot + sum((span.last - span.first) for span in spans if span.temperature > temperature
+                                         or not upto and span.temperature == temperature)
             assert at <= heat_of_grand(drawn, temperature, upto)
     assert not spans or spans[-1].last == drawn.targets.cold
-    hot, cold = (balanced(points, [each for each in drawn.uses if each.utility.side is side])[0]
+    hot, cold = (balanced(points, [use for use in drawn.uses if use.utility.side is side])[0]
                  for side, points in ((Side.HOT, drawn.curves.hot), (Side.COLD, drawn.curves.cold)))
-    for heat in {each[0] for each in (*hot, *cold)}:
+    for heat in {corner[0] for corner in (*hot, *cold)}:
         warm, cool = on_curve(hot, heat, Fraction(-10 ** 6)), on_curve(cold, heat, Fraction(-10 ** 6))
         assert warm is not None and cool is not None and warm >= cool
 
@@ -157,10 +158,10 @@ def assert_stands(drawn: Drawn) -> None:
 def heat_of_grand(drawn: Drawn, temperature: int, upto: bool) -> Fraction:
     """The grand curve just above a temperature, or just below it."""
     points = drawn.curves.net
-    held = [each.heat for each in points if each.temperature == temperature]
-    if held:
-        return Fraction(held[0] if upto else held[-1])
-    hotter = [each for each in points if each.temperature > temperature]
+    heats = [point.heat for point in points if point.temperature == temperature]
+    if heats:
+        return Fraction(heats[0] if upto else heats[-1])
+    hotter = [point for point in points if point.temperature > temperature]
     if not hotter or len(hotter) == len(points):
         return Fraction(points[0].heat if not hotter else points[-1].heat)
     one, other = hotter[-1], points[len(hotter)]
@@ -178,10 +179,10 @@ def test_utilities_stand_on_the_grand_curve(name: str, pinch: Pinch) -> None:
 def test_what_is_used_beyond_the_targets_is_left_of_the_axis_and_told(pinch: Pinch) -> None:
     content = example('three-levels.csv')
     drawn, figure = answered(pinch, content), curves(pinch, content)
-    assert drawn.beyond == 7000000 and min(each.last for each in stairs(drawn)) == -drawn.beyond
+    assert drawn.beyond == 7000000 and min(span.last for span in stairs(drawn)) == -drawn.beyond
     texts = svg_texts(figure)
     assert 'used beyond the targets: 7000 kW' in texts
-    assert any('hot utility 14500 kW, cold utility 17000 kW' in each for each in texts)
+    assert any('hot utility 14500 kW, cold utility 17000 kW' in text for text in texts)
 
 
 def test_a_legend_has_the_utilities_from_the_hottest_down_and_says_what_the_dotted_line_is(pinch: Pinch) -> None:
@@ -196,7 +197,7 @@ def test_a_legend_has_the_utilities_from_the_hottest_down_and_says_what_the_dott
 
 def test_raised_steam_touches_the_grand_curve(pinch: Pinch) -> None:
     drawn = answered(pinch, example('three-levels.csv'))
-    raised = next(each for each in stairs(drawn) if each.used.utility.name == 'BFW')
+    raised = next(span for span in stairs(drawn) if span.used.utility.name == 'BFW')
     assert raised.last == heat_of_grand(drawn, raised.temperature, True) == 5000000
 
 
@@ -204,7 +205,7 @@ def test_raised_steam_touches_the_grand_curve(pinch: Pinch) -> None:
 def test_labels_do_not_lie_on_curves(name: str, pinch: Pinch) -> None:
     figure = curves(pinch, example(f'{name}.csv'))
     for axes in figure.axes[:3]:
-        labels = [box for _, box, each in texts_of(figure) if each in axes.texts]
+        labels = [box for _, box, label in texts_of(figure) if label in axes.texts]
         for line in lines_named(axes, 'curve'):
             points = axes.transData.transform(line)
             for box in labels:
@@ -237,15 +238,16 @@ def utilities() -> some.SearchStrategy[list[Utility]]:
     return some.lists(one, max_size=12)
 
 
-def named(held: list[Stream], added: list[Utility]) -> Case:
-    return Case(50, tuple(replace(each, name=f'S{at}') for at, each in enumerate(held)),
-                tuple(replace(each, name=f'UTILITY-{at:08}') for at, each in enumerate(added)))
+def named(some_streams: list[Stream], added: list[Utility]) -> Case:
+    return Case(50, tuple(replace(stream, name=f'S{at}') for at, stream in enumerate(some_streams)),
+                tuple(replace(utility, name=f'UTILITY-{at:08}') for at, utility in enumerate(added)))
 
 
 @tried(2, 12)
 @given(streams(), utilities())
-def test_whatever_the_case_is_the_pictures_are_right_and_can_be_read(held: list[Stream], added: list[Utility]) -> None:
-    pinch, content = Pinch(), print_case(named(held, added)).encode()
+def test_whatever_the_case_is_the_pictures_are_right_and_can_be_read(some_streams: list[Stream],
+                                                                     added: list[Utility]) -> None:
+    pinch, content = Pinch(), print_case(named(some_streams, added)).encode()
     drawn = answered(pinch, content)
     for place in drawn.pinches:
         assert drawn.below(Side.HOT, place) == drawn.below(Side.COLD, place)

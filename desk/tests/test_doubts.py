@@ -44,8 +44,8 @@ def test_units_alone_may_stand_above_the_headings() -> None:
 def test_some_numbers_with_a_unit_and_some_without_are_refused() -> None:
     assert 'none is given for the column `target`' in refusal('name,supply (K),target,CP\nA,423,60,2\n')
     assert refusal(f'{HEAD}A,423 K,333 K,2\nB,150,60,2\n').startswith('row 2 column 2: this number has the unit `K`')
-    held = 'kind,name,supply °C,target °C,duty (MW),most\nhot,A,150,60,1.8,\nheater,S,200,,,500\n'
-    assert 'none is given for the column `most`' in refusal(held)
+    limited = 'kind,name,supply °C,target °C,duty (MW),most\nhot,A,150,60,1.8,\nheater,S,200,,,500\n'
+    assert 'none is given for the column `most`' in refusal(limited)
     assert streams(f'{HEAD}A,150 °C,60,2\n') == [('hot', 'A', 1500, 600, 200, 0)]
 
 
@@ -64,8 +64,8 @@ def test_a_case_that_a_spreadsheet_has_saved_is_not_taken_for_a_table(separator:
         assert refusal(text.replace(',', separator), Wanted()).startswith('this is a case already')
     rows: list[list[object]] = [['contribution', None, 50], ['cold', 'C1', 200, 1350, 200],
                                 ['hot', 'H2', 1700, 600, 300]]
-    for held in (rows, rows[1:]):
-        assert refusal(workbook(held)).startswith('this is a case already')
+    for case_rows in (rows, rows[1:]):
+        assert refusal(workbook(case_rows)).startswith('this is a case already')
     assert streams('hot,H,150,60,2\n') == [('hot', 'H', 1500, 600, 200, 0)]
 
 
@@ -75,18 +75,18 @@ def sheet(**changes: object) -> bytes:
     page = book.active
     for row in (['name', 'supply', 'target', 'CP'], ['A', 150, 60, 2], ['B', 20, 60, 300]):
         page.append(row)
-    for name, held in changes.items():
+    for name, change in changes.items():
         if name == 'form':
-            page['D3'].number_format = held
+            page['D3'].number_format = change
         elif name == 'struck':
-            page[str(held)].font = openpyxl.styles.Font(strike=True)
+            page[str(change)].font = openpyxl.styles.Font(strike=True)
         elif name == 'row':
-            page.row_dimensions[held].hidden = True
+            page.row_dimensions[change].hidden = True
         elif name == 'column':
-            page.column_dimensions[str(held)].hidden = True
+            page.column_dimensions[str(change)].hidden = True
         else:
-            book.create_sheet(str(held)).append(['x'])
-            book[str(held)].append(['y'])
+            book.create_sheet(str(change)).append(['x'])
+            book[str(change)].append(['y'])
     made_of = io.BytesIO()
     book.save(made_of)
     return made_of.getvalue()
@@ -118,4 +118,4 @@ def test_the_unit_that_a_format_writes_is_seen(form: str, flow: int) -> None:
 
 def test_which_of_several_sheets_is_read_is_told() -> None:
     assert 'of the sheets the first one, Sheet, is read, not New (--sheet)' in made(sheet(sheet='New')).notes
-    assert not any('of the sheets' in each for each in made(sheet(sheet='New'), replace(TEN, sheet='Sheet')).notes)
+    assert not any('of the sheets' in note for note in made(sheet(sheet='New'), replace(TEN, sheet='Sheet')).notes)

@@ -65,7 +65,7 @@ NO_COLUMNS = (
 
 
 def read(text: str) -> list[tuple[object, ...]]:
-    return [(each.name, each.supply, each.target, each.cp) for each in made(text).case.streams]
+    return [(stream.name, stream.supply, stream.target, stream.cp) for stream in made(text).case.streams]
 
 
 def priced(price: str) -> str:
@@ -75,15 +75,15 @@ def priced(price: str) -> str:
 
 def tables() -> list[tuple[str, str]]:
     """Tables that are refused, each with what it is about."""
-    held = [(f'temperature {each}', f'{HEAD}A;{each};60;2\nB;20;120;3\n') for each in NO_TEMPERATURES]
-    held += [(f'name {each}', f'{HEAD}{each};150;60;2\nB;20;120;3\n') for each in NO_NAMES]
-    held += [(f'kind {each}', f'{KINDS}{each};A;150;60;2;;\n') for each in KIND_WORDS]
-    held += [(f'heading {each}', f'Stream;{each};Target (°C);CP\nA;150;60;2\n') for each in NO_HEADINGS]
-    held += [(f'heading {each}', f'Stream;Supply (°C);Target (°C);{each}\nA;150;60;2\n')
-             for each in (*NO_FLOWS, *NO_HEATS)]
-    held += [(f'row {each}', f'{HEAD}Z;150;60;2\n{each}\nB;20;120;3\n') for each in NO_ROWS]
-    held += [(f'price {each}', priced(each)) for each in NO_PRICES]
-    return held + [(f'columns {each}', each + '\n') for each in NO_COLUMNS]
+    refused = [(f'temperature {text}', f'{HEAD}A;{text};60;2\nB;20;120;3\n') for text in NO_TEMPERATURES]
+    refused += [(f'name {name}', f'{HEAD}{name};150;60;2\nB;20;120;3\n') for name in NO_NAMES]
+    refused += [(f'kind {word}', f'{KINDS}{word};A;150;60;2;;\n') for word in KIND_WORDS]
+    refused += [(f'heading {heading}', f'Stream;{heading};Target (°C);CP\nA;150;60;2\n') for heading in NO_HEADINGS]
+    refused += [(f'heading {heat}', f'Stream;Supply (°C);Target (°C);{heat}\nA;150;60;2\n')
+                for heat in (*NO_FLOWS, *NO_HEATS)]
+    refused += [(f'row {row}', f'{HEAD}Z;150;60;2\n{row}\nB;20;120;3\n') for row in NO_ROWS]
+    refused += [(f'price {price}', priced(price)) for price in NO_PRICES]
+    return refused + [(f'columns {columns}', columns + '\n') for columns in NO_COLUMNS]
 
 
 @pytest.mark.parametrize('text', [text for _, text in tables()], ids=[about for about, _ in tables()])
@@ -92,15 +92,15 @@ def test_a_spoilt_table_is_refused(text: str) -> None:
 
 
 def test_what_can_mean_one_thing_is_read() -> None:
-    for each in TEMPERATURES:
-        assert read(f'{HEAD}A;{each};60;2\n') == [A], each
+    for temperature in TEMPERATURES:
+        assert read(f'{HEAD}A;{temperature};60;2\n') == [A], temperature
     for name, fit in NAMES:
         assert read(f'{HEAD}{name};150;60;2\n') == [(fit, *A[1:])], name
-    for each in ROWS:
-        assert read(f'{HEAD}A;150;60;2\n{each}\nB;20;120;3\n') == [A, ('B', 200, 1200, 300)], each
-    for each in PRICES:
-        case = made(priced(each)).case
-        assert [utility.price for utility in case.utilities][:2] == [30, 40], each
+    for row in ROWS:
+        assert read(f'{HEAD}A;150;60;2\n{row}\nB;20;120;3\n') == [A, ('B', 200, 1200, 300)], row
+    for price in PRICES:
+        case = made(priced(price)).case
+        assert [utility.price for utility in case.utilities][:2] == [30, 40], price
 
 
 def test_headings_that_are_repeated_begin_again() -> None:
@@ -111,7 +111,7 @@ def test_headings_that_are_repeated_begin_again() -> None:
 
 
 def test_a_spoilt_least_difference_is_refused() -> None:
-    for each in ('x', '', '10 kW', '1,250', '10-20', '-1', '1e9', '10 %', '500', '10 °', '10 m', 'ten', '1' * 60):
+    for text in ('x', '', '10 kW', '1,250', '10-20', '-1', '1e9', '10 %', '500', '10 °', '10 m', 'ten', '1' * 60):
         with pytest.raises(Exception, match='least difference'):
-            made(f'{HEAD}A;150;60;2\n', Wanted(each))
+            made(f'{HEAD}A;150;60;2\n', Wanted(text))
     assert made(f'{HEAD}A;150;60;2\n', TEN).case.contribution == 50

@@ -40,9 +40,9 @@ def used_by(module: tuple[str, ...]) -> Iterator[str]:
         if isinstance(node, ast.ImportFrom) and node.level:
             base = here[:len(here) - node.level + 1]
             named = [*base, *(node.module or '').split('.')] if node.module else list(base)
-            yield from [named[0]] if named else (each.name for each in node.names)
+            yield from [named[0]] if named else (alias.name for alias in node.names)
         elif isinstance(node, (ast.Import, ast.ImportFrom)):
-            names = [node.module or ''] if isinstance(node, ast.ImportFrom) else [each.name for each in node.names]
+            names = [node.module or ''] if isinstance(node, ast.ImportFrom) else [alias.name for alias in node.names]
             yield from (name.split('.')[1] for name in names if name.startswith('pinchdesk.'))
 
 

@@ -138,7 +138,7 @@ def test_signs_and_names_of_one_money_go_together() -> None:
         assert made(PRICED.format(heading, price)).case.utilities[0].price == 30
     both = 'kind;name;supply °C;target °C;CP kW/K;price\nhot;H;150;60;2;\nheater;a;180;;;30 €/MWh\n' \
            'heater;b;200;;;40 EUR/MWh\n'
-    assert [each.price for each in made(both).case.utilities] == [30, 40]
+    assert [utility.price for utility in made(both).case.utilities] == [30, 40]
     assert '$ and EUR are two currencies' in refusal(both.replace('€', '$'))
 
 
@@ -166,14 +166,14 @@ def test_what_is_rounded_says_how_far_the_targets_are_off(pinch: Pinch) -> None:
     said = 'by what is rounded the hot target is 1.844 kW too high, and the cold target is 1.397 kW too high'
     assert table.notes[-1] == said and table.comments[-1] == f'# {said}'
     whole = checked(made('H;150;60;2;180\nC;20;125;2.5\n'), pinch)
-    assert not any('by what is rounded' in each for each in whole.notes)
+    assert not any('by what is rounded' in note for note in whole.notes)
 
 
 @pytest.mark.parametrize('name', CASES)
 def test_the_exact_targets_of_a_case_in_whole_numbers_are_those_of_the_program(name: str, pinch: Pinch) -> None:
     case, targets = read_case(example(f'{name}.csv')), pinch.targets(example(f'{name}.csv'))
-    spans = [span_of(each.side, (Fraction(each.supply), Fraction(each.target)), Fraction(each.heat),
-                     Fraction(each.contribution)) for each in case.streams]
+    spans = [span_of(stream.side, (Fraction(stream.supply), Fraction(stream.target)), Fraction(stream.heat),
+                     Fraction(stream.contribution)) for stream in case.streams]
     assert as_objects(*exact_targets(spans)) == (targets.hot, targets.cold)
 
 

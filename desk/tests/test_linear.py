@@ -70,12 +70,12 @@ def test_a_program_of_many_choices_is_solved_apart(monkeypatch: pytest.MonkeyPat
 
 
 def test_equations_that_contradict() -> None:
-    held = Elimination(2)
-    assert held.add(terms(1, 2), Fraction(3)) and not held.add(terms(2, 4), Fraction(6))
+    equations = Elimination(2)
+    assert equations.add(terms(1, 2), Fraction(3)) and not equations.add(terms(2, 4), Fraction(6))
     with pytest.raises(Inconsistent):
-        held.add(terms(1, 2), Fraction(4))
-    assert held.point() is None
-    assert held.add_if_free(terms(0, 1), Fraction(1, 2)) and held.point() == (Fraction(2), Fraction(1, 2))
+        equations.add(terms(1, 2), Fraction(4))
+    assert equations.point() is None
+    assert equations.add_if_free(terms(0, 1), Fraction(1, 2)) and equations.point() == (Fraction(2), Fraction(1, 2))
 
 
 @given(some.data())
@@ -86,10 +86,10 @@ def test_what_is_given_back_is_a_point(data: some.DataObject) -> None:
     inside = [data.draw(some.fractions(0, 5, max_denominator=7)) for _ in range(width)]
     rows = []
     for _ in range(data.draw(some.integers(1, 4))):
-        held = tuple((at, data.draw(factor)) for at in range(width))
-        value = LinearRow(held, None, None).at(inside)
+        row_terms = tuple((at, data.draw(factor)) for at in range(width))
+        value = LinearRow(row_terms, None, None).at(inside)
         least = value if data.draw(some.booleans()) else None
-        rows.append(LinearRow(held, least, value + data.draw(some.integers(0, 1))))
+        rows.append(LinearRow(row_terms, least, value + data.draw(some.integers(0, 1))))
     aim = tuple((at, data.draw(factor)) for at in range(width))
     program = Program((Fraction(0),) * width, (Fraction(5),) * width, frozenset(), tuple(rows), aim)
     solved = linear.solve(program)

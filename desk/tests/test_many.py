@@ -38,8 +38,8 @@ def desk(capfd: pytest.CaptureFixture[str]) -> Desk:
     """Runs words in this process, by two processes of its own where all tests are asked for."""
     def run(*words: str) -> Done:
         status = main(['many', *words, *(['--processes', '2'] if '--help' not in words else [])])
-        held = capfd.readouterr()
-        return Done(status, held.out, held.err)
+        captured = capfd.readouterr()
+        return Done(status, captured.out, captured.err)
     return run
 
 
@@ -80,10 +80,10 @@ def test_each_case_has_its_row_in_order_and_a_refusal_is_one(desk: Desk, folder:
 def test_the_answers_are_those_of_the_word_by_itself(pinch: Pinch) -> None:
     cases = {name: example(f'{name}.csv') for name in CASES}
     targets, flows = pinchdesk.many('targets', cases), pinchdesk.many('flow', cases)
-    assert [each.name for each in targets.done] == CASES and targets.status == 0
-    for each, flow in zip(targets.done, flows.done):
-        held, wanted = pinch.targets(cases[each.name]), pinch.flow(cases[each.name])
-        assert each.outcome.facts[0]['hot utility kW'] * 1000 == held.hot  # type: ignore[operator]
+    assert [result.name for result in targets.done] == CASES and targets.status == 0
+    for result, flow in zip(targets.done, flows.done):
+        alone, wanted = pinch.targets(cases[result.name]), pinch.flow(cases[result.name])
+        assert result.outcome.facts[0]['hot utility kW'] * 1000 == alone.hot  # type: ignore[operator]
         assert (flow.answer == 'infeasible') == isinstance(wanted, pinchdesk.Cut)
     assert flows.status == 1
 
@@ -303,11 +303,11 @@ def test_scenarios_are_cases_by_name() -> None:
     case = read_case(example('tc3.csv'))
     hotter = replace(case, streams=(replace(case.streams[0], supply=case.streams[0].supply + 10), *case.streams[1:]))
     results = pinchdesk.many('targets', {'base': case, 'hotter': hotter}, processes=1)
-    assert [(each.name, each.outcome.facts[0]['hot utility kW']) for each in results.done][0][0] == 'base'
+    assert [(result.name, result.outcome.facts[0]['hot utility kW']) for result in results.done][0][0] == 'base'
     assert results.told == '2 cases: 2 good' and results.sheet().headings[:2] == ('case', 'answer')
     network = pinchdesk.read_network(example('tc3-network.txt'))
     results = pinchdesk.many('audit', {'base': (case, network), 'hotter': (hotter, network)}, processes=2)
-    assert [each.answer for each in results.done] == ['good', 'rejected']
+    assert [result.answer for result in results.done] == ['good', 'rejected']
     results = pinchdesk.many('sweep', {'base': case}, '0', '20', '10', processes=1)
     assert len(results.done[0].outcome.facts) == 3
 
@@ -326,8 +326,8 @@ def test_a_call_that_is_not_clear_is_an_error() -> None:
 def test_a_process_that_dies_loses_no_case(folder: Path, tmp_path: Path, monkeypatch: pytest.MonkeyPatch) -> None:
     program(tmp_path, monkeypatch, f'mkdir {tmp_path}/died 2> /dev/null && kill -9 $PPID')
     results = pinchdesk.many('targets', folder, processes=2)
-    assert [(each.name, each.answer) for each in results.done] == [('c2.csv', 'good'), ('c3.csv', 'refused'),
-                                                                   ('c10.csv', 'good')]
+    assert [(result.name, result.answer) for result in results.done] == [('c2.csv', 'good'), ('c3.csv', 'refused'),
+                                                                         ('c10.csv', 'good')]
     assert (tmp_path / 'died').is_dir()
 
 
@@ -336,7 +336,7 @@ def test_a_case_at_which_each_process_dies_is_given_up(folder: Path, tmp_path: P
                                                        monkeypatch: pytest.MonkeyPatch) -> None:
     program(tmp_path, monkeypatch, f'grep -q "1000;500" case && echo >> {tmp_path}/deaths && kill -9 $PPID')
     results = pinchdesk.many('targets', folder, processes=2)
-    assert [each.answer for each in results.done] == ['good', 'failed', 'good'] and results.status == 2
+    assert [result.answer for result in results.done] == ['good', 'failed', 'good'] and results.status == 2
     assert results.done[1].outcome.told == 'the process that did it died, 3 times: by signal 9'
     assert (tmp_path / 'deaths').read_text() == '\n' * TRIES
 
@@ -401,7 +401,7 @@ def test_a_worker_of_another_version_is_told(scheduler: str, folder: Path, desk:
     own = digests()
     for other, said in ((replace(own, desk='0' * 64), 'it has another pinchdesk'),
                         (replace(own, program='1' * 64), 'it has another pinch (digest ')):
-        monkeypatch.setattr('pinchdesk.batch.cluster.digests', lambda held=other: held)
+        monkeypatch.setattr('pinchdesk.batch.cluster.digests', lambda changed_digests=other: changed_digests)
         done = desk('targets', str(folder), '--scheduler', scheduler)
         assert (done.status, done.out) == (2, '')
         assert f'no worker at {scheduler} can be asked; tcp://' in done.err and said in done.err
