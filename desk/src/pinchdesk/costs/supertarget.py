@@ -16,7 +16,7 @@ from ..program.run import CaseText, Pinch
 from .annual import AnnualCost, annual_cost, at_most, price_of, priced_parts
 from .area_target import area_target
 from .balanced import carriers
-from .cost_data import CostData, refused
+from .cost_data import CostData
 from .cost_target import one_two_area, shell_target
 from .enclosure import Enclosure
 from .quick_area import quick_area
@@ -81,12 +81,10 @@ class Supertarget:
 
 def supertarget(case: CaseText, first: int, last: int, step: int, pinch: Pinch | None = None,
                 workers: int = WORKERS) -> Supertarget:
-    """The supertarget of a case over contributions from the first to the last one, in tenths of °C; own contributions
-    are shifted alike. `WordsError` where there is no such range, `Refused` where something is missing."""
+    """The supertarget of a case over its contributions from the first to the last one; those of its sources' own are
+    shifted alike. `WordsError` where there is no such range, `Refused` where something is missing."""
     whole = completed(case if isinstance(case, Case) else read_case(case))
     asked = pinch or Pinch()
-    if whole.basis.units:
-        raise refused('#units', 'a supertarget needs a case in tenths of °C and W: make it without `--units table`')
     if not 0 <= first <= last <= MOST_CONTRIBUTION or step < 1:
         raise WordsError('a supertarget goes from a least difference of at least 0 K to one of at most 200 K, in steps '
                          'of at least 0.2 K')

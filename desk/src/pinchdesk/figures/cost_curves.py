@@ -24,8 +24,8 @@ def supertarget_figure(found: Supertarget) -> Figure:
         for label, colour, cost in curves_of():
             axes.plot(across, [float(cost(point)) for point in found.points], color=colour, linewidth=1.5, label=label)
         if found.without:
-            axes.plot([float(difference) for difference, _ in found.without], [0] * len(found.without), 'x', color=INK,
-                      markersize=7, label='no cost there', clip_on=False)
+            without = [in_degrees(difference, shown) for difference, _ in found.without]
+            axes.plot(without, [0] * len(without), 'x', color=INK, markersize=7, label='no cost there', clip_on=False)
         put_least(axes, found, shown)
         put_area(axes.twinx(), found, across)
         money = said(found.data.capital.currency)
