@@ -357,6 +357,30 @@ def test_nothing_is_wider_than_the_window(driver: Chrome, tmp_path: Path) -> Non
         desk.kill()
 
 
+LONG_NUMBERS = """#units,°F,Btu/h,65941/225000,10,0,1
+contribution,,50,,,,
+hot,H1,2600,1600,3000,,
+cold,C1,1200,2350,123456,,
+"""
+
+
+@pytest.mark.long
+def test_no_number_of_a_cell_is_cut(driver: Chrome, tmp_path: Path) -> None:
+    """A number that has lost its last digit reads as another one."""
+    (tmp_path / 'case.csv').write_text(LONG_NUMBERS, encoding='utf-8')
+    desk = open_desk(tmp_path / 'case.csv', tmp_path / 'network.txt')
+    try:
+        page = LivePage(driver).go(desk.address)
+        page.until(lambda: page.all('.cells input'))
+        cut = driver.execute_script("return [...document.querySelectorAll('.cells input')]"
+                                    ".filter(cell => cell.scrollWidth > cell.clientWidth).map(cell => cell.value)")
+        assert cut == []
+        assert '1234560' in [cell.get_attribute('value') for cell in page.all('.cells input')]
+    finally:
+        driver.get('about:blank')
+        desk.kill()
+
+
 def opened_example(folder: Path, name: str = 'tc3') -> OpenDesk:
     """A case with its published network."""
     for ending in ('.csv', '-network.txt'):
@@ -408,7 +432,7 @@ def test_a_gesture_is_painted_soon(page: LivePage) -> None:
     page.place(('S1', '120'), ('S3', '137.5'))
     page.place(('S2', '240'), ('S4', '135'))
     times = page.painted()
-    assert 0 <= times['asked'] < times['answered'] < times['painted'] < 2000
+    assert 0 <= times['asked'] < times['answered'] < times['painted'] < 5000
 
 
 @pytest.mark.long

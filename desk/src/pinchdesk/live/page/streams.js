@@ -116,7 +116,8 @@ export class StreamsPart {
     const key = `${row} ${field}`, wrong = this.wrong.has(key);
     /** @type {HTMLInputElement} */
     const input = make('input', {
-      value: text, class: kind, size: kind === 'name' && Math.min(this.longest, 14), 'data-key': `cell ${key}`,
+      value: text, class: kind, size: kind === 'name' ? Math.min(this.longest, 14) : Math.max(3, text.length),
+      'data-key': `cell ${key}`,
       'aria-label': `${WORDS[field] ?? field} of ${name}`,
       spellcheck: 'false', autocomplete: 'off', placeholder: '–', 'aria-invalid': wrong && 'true',
       'aria-describedby': wrong && 'cell-fault',
