@@ -52,7 +52,7 @@ def test_what_is_left_without_the_last_statements_costs_no_more_than_the_whole_n
                                                                                        pinch: Pinch) -> None:
     """All ends are left out: every branch stands at its target, and nothing is left to give or to take."""
     case, network = example(f'{name}.csv'), read_network(example(f'{name}-network.txt'))
-    endless = Network(tuple(each for each in network.statements if not isinstance(each, End)))
+    endless = Network(tuple(statement for statement in network.statements if not isinstance(statement, End)))
     rest = remaining(case, endless, pinch)
     assert rest.good and rest.harder is None and len(rest.left) == len(rest.followed.case.streams)
     whole = pinch.audit(case, network)
@@ -86,23 +86,24 @@ def beginnings(network: Network) -> list[Network]:
 
 def without_last(network: Network) -> Network | None:
     """The network without an exchanger behind which nothing but ends stands on both of its streams."""
-    open_ends = tuple(each for each in network.statements if not isinstance(each, End))
-    used = {name for each in open_ends for name in
-            ((each.branch,) if isinstance(each, Split | Pass) else (each.first, each.second)
-             if isinstance(each, Mix) else ())}
-    last = {each.exchanger: [one for one in open_ends if isinstance(one, Pass) and one.exchanger == each.exchanger]
-            for each in open_ends if isinstance(each, Pass)}
+    open_ends = tuple(statement for statement in network.statements if not isinstance(statement, End))
+    used = {name for statement in open_ends for name in
+            ((statement.branch,) if isinstance(statement, Split | Pass) else (statement.first, statement.second)
+             if isinstance(statement, Mix) else ())}
+    last = {statement.exchanger: [one for one in open_ends
+                                  if isinstance(one, Pass) and one.exchanger == statement.exchanger]
+            for statement in open_ends if isinstance(statement, Pass)}
     for name, passes in last.items():
-        if all(each.to not in used for each in passes):
-            return Network(tuple(each for each in open_ends if each not in passes and not (
-                isinstance(each, Exchanger) and each.name == name)))
+        if all(pass_statement.to not in used for pass_statement in passes):
+            return Network(tuple(statement for statement in open_ends if statement not in passes and not (
+                isinstance(statement, Exchanger) and statement.name == name)))
     return None
 
 
 def test_a_match_above_the_pinch_costs_nothing_and_its_end_stands_at_the_pinch(pinch: Pinch) -> None:
     rest = remaining(FOUR, AHEAD, pinch)
     assert targets_of(rest) == (20_000, 60_000) and as_objects(*rest.excess) == (0, 0) and rest.good
-    assert [as_objects(each.name, each.branch.name, each.state, each.heat) for each in rest.left] == [
+    assert [as_objects(left.name, left.branch.name, left.state, left.heat) for left in rest.left] == [
         ('C1', 'C1', 200, 230_000), ('H2', 'a', 900, 90_000), ('H4', 'H4', 1500, 180_000)]
     sheets = rest_sheets(rest)
     assert [row[1:3] + row[6:] for row in sheets[2].rows] == [
@@ -138,7 +139,7 @@ def test_sizes_that_are_fractions_are_scaled(pinch: Pinch) -> None:
     rest = remaining(FOUR, network, pinch)
     assert rest.harder and rest.harder.scale.sizes == 21 and targets_of(rest) == (20_000, 60_000)
     posed = written_case(rest)
-    assert posed and posed.basis.scale == 21 and [each.cp for each in posed.streams[1:4]] == [300, 7, 5993]
+    assert posed and posed.basis.scale == 21 and [stream.cp for stream in posed.streams[1:4]] == [300, 7, 5993]
     assert list(file_notes(rest)) == ['in the case of the rest all heats and CPs are multiplied by 21 (#scale)']
 
 
@@ -151,8 +152,8 @@ def test_what_no_scale_holds_is_rounded_to_both_sides_and_told(pinch: Pinch) -> 
     assert rest.harder.cold <= 60_000 + duty * 5 / 8 <= rest.easier.cold
     told = list(rounding_notes(rest))
     assert told[-1] == 'the exact targets of the rest lie between those of both'
-    assert any(each.startswith('branch d of C3: 80.0247') for each in told)
-    assert any('branch a of H4: 0.099997 (1000001/10000300) kW/K is taken as ' in each for each in told)
+    assert any(note.startswith('branch d of C3: 80.0247') for note in told)
+    assert any('branch a of H4: 0.099997 (1000001/10000300) kW/K is taken as ' in note for note in told)
     split = remaining(FOUR, 'split H4 a 1000001/100003 b\nsplit C1 c 1000003/100019 d\n', pinch)
     assert split.excess[0] == 0 < split.excess[1] < 1000
     rows = rest_sheets(split)[0].rows
@@ -162,10 +163,10 @@ def test_what_no_scale_holds_is_rounded_to_both_sides_and_told(pinch: Pinch) -> 
 def test_of_a_latent_stream_the_load_is_left(pinch: Pinch) -> None:
     network = 'exchanger E1 H B 3000\npass H E1 a\nsplit B b 5000 c\npass b E1 d\n'
     rest = remaining(LATENT, network, pinch)
-    assert [as_objects(each.name, each.heat) for each in rest.left] == [('H', 5000), ('c', 3000), ('d', 2000)]
+    assert [as_objects(left.name, left.heat) for left in rest.left] == [('H', 5000), ('c', 3000), ('d', 2000)]
     assert targets_of(rest) == (3000, 3000) and as_objects(*rest.excess) == (0, 0)
     posed = written_case(rest)
-    assert posed and [each.load for each in posed.streams] == [0, 3000, 2000]
+    assert posed and [stream.load for stream in posed.streams] == [0, 3000, 2000]
 
 
 def test_own_contributions_ranges_and_forbidden_matches_are_kept(pinch: Pinch) -> None:
@@ -174,9 +175,9 @@ def test_own_contributions_ranges_and_forbidden_matches_are_kept(pinch: Pinch) -
     network = 'exchanger Q1 S C 40000\nsplit C c1 50 c2\npass c1 Q1 c3\n'
     rest = remaining(case, network, pinch)
     posed = written_case(rest)
-    assert posed is not None and [each.contribution for each in posed.streams] == [20, 50, 50]
-    assert [(each.least, each.most) for each in posed.utilities] == [(0, 50_000), (0, 1_000_000)]
-    assert [(each.hot, each.cold) for each in posed.forbids] == [('H', 'c2'), ('H', 'c3'), ('H', 'W')]
+    assert posed is not None and [stream.contribution for stream in posed.streams] == [20, 50, 50]
+    assert [(utility.least, utility.most) for utility in posed.utilities] == [(0, 50_000), (0, 1_000_000)]
+    assert [(forbid.hot, forbid.cold) for forbid in posed.forbids] == [('H', 'c2'), ('H', 'c3'), ('H', 'W')]
     assert not rest.good and isinstance(rest.whole_flow, Cut)
     assert rest_sheets(rest)[-1].title.startswith('No heat flow: these parts have to ')
 
@@ -185,7 +186,7 @@ def test_a_utility_that_gave_all_has_nothing_left_and_one_that_gave_too_much_is_
     case = 'contribution,,50,,,,\ncold,C,300,1300,100,,\nheater,S,2200,0,40000,2,\nheater,R,2000,0,90000,3,\n'
     rest = remaining(case, 'exchanger Q1 S C 40000\npass C Q1 a\n', pinch)
     assert rest.good and isinstance(rest.whole_flow, HeatFlow) and as_objects(*rest.excess) == (0, 0)
-    assert rest.harder and [each.most for each in rest.harder.case.utilities] == [0, 90_000]
+    assert rest.harder and [utility.most for utility in rest.harder.case.utilities] == [0, 90_000]
     assert rest.cost_used == 80_000 and rest.harder.cost == 180_000 and rest.whole_flow.cost == 260_000
     over = remaining(case, 'exchanger Q1 S C 40001\npass C Q1 a\n', pinch)
     assert isinstance(over.verdict, Rejected) and over.verdict.reason == 'UtilityRange' and not over.good
@@ -222,7 +223,7 @@ def test_more_branches_than_a_case_holds_are_refused(pinch: Pinch) -> None:
 
 
 def test_the_word_writes_the_case_of_the_rest(tmp_path: Path, capsys: pytest.CaptureFixture[str]) -> None:
-    case, network, made = (tmp_path / each for each in ('case.csv', 'n.txt', 'rest.csv'))
+    case, network, made = (tmp_path / file_name for file_name in ('case.csv', 'n.txt', 'rest.csv'))
     case.write_bytes(FOUR)
     network.write_text(ACROSS)
     assert main(['rest', str(case), str(network), '--case', str(made)]) == 0
@@ -267,7 +268,7 @@ def test_splits_alone_leave_the_whole(case: Case, data: st.DataObject) -> None:
     assert rest.harder and rest.easier and rest.excess[0] == 0
     assert rest.easier.hot <= whole.hot <= rest.harder.hot and rest.harder.cold <= whole.cold <= rest.easier.cold
     assert not rest.exact or targets_of(rest) == (whole.hot, whole.cold)
-    assert sum((each.heat for each in rest.left), Fraction(0)) == sum(each.heat for each in case.streams)
+    assert sum((left.heat for left in rest.left), Fraction(0)) == sum(case_stream.heat for case_stream in case.streams)
 
 
 @tried(3, 8)
@@ -281,10 +282,10 @@ def test_moved_and_scaled_temperatures_have_the_same_targets(case: Case, degrees
     scale = replace(plain, degrees=degrees, offset=-2731 + degrees * 100)
     found = pinch.targets(rest_case(rest.followed.case, rest.left, rest.used, scale, Rounding.HARDER))
     assert (found.hot, found.cold) == (degrees * whole.hot, degrees * whole.cold)
-    assert tuple(scale.back(each) for each in found.pinches) == whole.pinches
+    assert tuple(scale.back(pinch_temperature) for pinch_temperature in found.pinches) == whole.pinches
 
 
 def test_a_printed_case_of_the_rest_is_one(pinch: Pinch) -> None:
     posed = written_case(remaining(example('aromatics.csv'), 'split H1 a 100/3 b\n', pinch))
     assert posed and read_case(print_case(posed)) == posed and completed(posed).source('a')
-    assert all(isinstance(each, Stream) for each in posed.streams)
+    assert all(isinstance(stream, Stream) for stream in posed.streams)

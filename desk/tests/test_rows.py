@@ -20,7 +20,7 @@ FEED = [('cold', 'Feed', 200, 1800, 1162, 0)]
 
 def test_a_stream_whose_name_begins_with_a_hash_is_a_stream(pinch: Pinch) -> None:
     table = made(f'{HEAD}#2 diesel;250;60;12\nFeed;20;180;10\nH1;150;60;2\n')
-    assert [each.name for each in table.case.streams] == ['2-diesel', 'Feed', 'H1']
+    assert [stream.name for stream in table.case.streams] == ['2-diesel', 'Feed', 'H1']
     assert pinch.targets(checked(table, pinch).case).hot == 0
     assert 'row 2: a stream, since it has numbers, and no comment: `#2 diesel 250 60 12`' in table.notes
     assert table.comments == ()
@@ -43,8 +43,8 @@ def test_a_row_that_may_be_a_stream_or_one_left_out_is_refused(row: str) -> None
 def test_a_comment_is_told_with_its_text_and_stays_in_the_case() -> None:
     table = made(f'# from the flow sheet; rev. 3\n{HEAD}# by hand\nH1;150;60;2\n')
     assert table.comments == ('# from the flow sheet rev. 3', '# by hand')
-    assert [each for each in table.notes if 'by hand' in each] == ['row 3: passed over, a comment: `# by hand`']
-    assert any('`# from the flow sheet rev. 3`' in each for each in table.notes)
+    assert [note for note in table.notes if 'by hand' in note] == ['row 3: passed over, a comment: `# by hand`']
+    assert any('`# from the flow sheet rev. 3`' in note for note in table.notes)
 
 
 # Rows of units.
@@ -114,8 +114,8 @@ def test_a_title_that_names_the_unit_of_all_temperatures_gives_it(title: str) ->
     head, row = 'Stream;Supply;Target;CP (kW/K)', 'Feed;68;356;10'
     for text in (f'{title};;;\n{head}\n{row}\n', f'{head}\n{row}\n{title};;;\n', f'# {title};;;\n{head}\n{row}\n'):
         table = made(text, Wanted('10 K'))
-        assert [each.supply for each in table.case.streams] == [200], text
-        assert any('is taken for numbers of temperature, as' in each for each in table.notes)
+        assert [stream.supply for stream in table.case.streams] == [200], text
+        assert any('is taken for numbers of temperature, as' in note for note in table.notes)
     for text in beside_numbers(title, head, row):
         assert REFUSED.search(refusal(text)), text
 
@@ -160,7 +160,7 @@ def test_a_title_that_leaves_a_unit_of_heats_open_is_refused(title: str) -> None
 def test_a_title_that_names_none_is_told_with_its_text(title: str) -> None:
     table = made(f'{title};;;\n\nStream;Supply;Target;Duty\nFeed;20;180;1600\n')
     assert f'row 1: passed over, above the headings: `{title}`' in table.notes
-    assert [each.cp for each in table.case.streams] == [1000]
+    assert [stream.cp for stream in table.case.streams] == [1000]
 
 
 def test_a_stream_above_the_headings_is_refused() -> None:
@@ -216,7 +216,7 @@ def test_titles_with_utilities_that_make_none_of_them_are_passed_over() -> None:
 
 def test_rows_below_a_title_that_names_the_other_side_are_refused() -> None:
     table = f'{HEAD}Hot streams;;;\nH1;150;60;2\nCold streams;;;\nC1;20;125;2,5\n'
-    assert [each[:2] for each in streams(table)] == [('hot', 'H1'), ('cold', 'C1')]
+    assert [stream[:2] for stream in streams(table)] == [('hot', 'H1'), ('cold', 'C1')]
     assert 'row 5: below `Cold streams` stands a stream that cools down' in refusal(table.replace('20;125', '125;20'))
 
 

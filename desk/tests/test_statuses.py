@@ -25,8 +25,8 @@ Desk = Callable[..., Done]
 def desk(capfd: pytest.CaptureFixture[str]) -> Desk:
     def run(*words: str) -> Done:
         status = main(list(words))
-        held = capfd.readouterr()
-        return Done(status, held.out, held.err)
+        printed = capfd.readouterr()
+        return Done(status, printed.out, printed.err)
     return run
 
 

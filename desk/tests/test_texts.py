@@ -41,36 +41,36 @@ def test_a_study_printed_and_read_again_is_the_same(study: Study) -> None:
 
 @pytest.mark.parametrize('name', CASES)
 def test_the_program_says_the_same_of_a_case_that_was_read_and_printed(name: str, pinch: Pinch) -> None:
-    held = example(f'{name}.csv')
-    case = read_case(held)
-    assert pinch.targets(case) == pinch.targets(held)
-    assert pinch.flow(case) == pinch.flow(held)
+    content = example(f'{name}.csv')
+    case = read_case(content)
+    assert pinch.targets(case) == pinch.targets(content)
+    assert pinch.flow(case) == pinch.flow(content)
 
 
 @pytest.mark.parametrize('name', CASES)
 def test_the_utilities_that_stand_in_are_those_of_the_flow(name: str, pinch: Pinch) -> None:
-    held = example(f'{name}.csv')
-    case, flow = completed(read_case(held)), pinch.flow(held)
+    content = example(f'{name}.csv')
+    case, flow = completed(read_case(content)), pinch.flow(content)
     if isinstance(flow, Cut):
         return
-    levels = {each.part.name: each.part.high for each in (*flow.gives, *flow.takes)}
-    prices = {each.part.name: each.price for each in flow.gives}
-    assert [each.name for each in flow.uses] == [each.name for each in case.utilities]
-    for each in case.utilities:
-        assert levels[each.name] == shifted(each, each.level)
-        assert not each.invented or each.side is Side.COLD or prices[each.name] <= each.price
+    levels = {price.part.name: price.part.high for price in (*flow.gives, *flow.takes)}
+    prices = {price.part.name: price.price for price in flow.gives}
+    assert [use.name for use in flow.uses] == [utility.name for utility in case.utilities]
+    for utility in case.utilities:
+        assert levels[utility.name] == shifted(utility, utility.level)
+        assert not utility.invented or utility.side is Side.COLD or prices[utility.name] <= utility.price
 
 
 @pytest.mark.parametrize('name', NETWORKS)
 def test_a_network_of_the_examples_is_read_as_the_program_reads_it(name: str, pinch: Pinch) -> None:
-    case, held = example(f'{name}.csv'), example(f'{name}-network.txt')
-    assert pinch.audit(case, read_network(held)) == pinch.audit(case, held)
+    case, network = example(f'{name}.csv'), example(f'{name}-network.txt')
+    assert pinch.audit(case, read_network(network)) == pinch.audit(case, network)
 
 
 @pytest.mark.parametrize('name', SITES)
 def test_a_site_is_read(name: str) -> None:
     site = read_site(example(f'{name}.csv'))
-    assert site.mains and sum(len(each.streams) for each in site.plants) > 3
+    assert site.mains and sum(len(plant.streams) for plant in site.plants) > 3
 
 
 REFUSED_CASES = [
@@ -129,8 +129,8 @@ def test_what_is_no_study_is_refused(text: str, said: str) -> None:
 
 def test_comments_in_any_letters_and_long_fields_are_passed_over() -> None:
     long = b'# ' + b'x' * 200_000 + b',,,,,,\n'
-    held = b'# caf\xe9,,,,,,\n' + long + b'contribution,,50,,,,\n,,,,,,\nhot,H,1000,500,10,,\n'
-    assert read_case(held).streams == (Stream('H', Side.HOT, 1000, 500, 10, 0, 50),)
+    content = b'# caf\xe9,,,,,,\n' + long + b'contribution,,50,,,,\n,,,,,,\nhot,H,1000,500,10,,\n'
+    assert read_case(content).streams == (Stream('H', Side.HOT, 1000, 500, 10, 0, 50),)
 
 
 def test_comments_of_the_desk_that_say_what_cannot_be_are_refused() -> None:

@@ -287,8 +287,8 @@ def test_help_has_an_example_that_runs(word: str, desk: Captured, monkeypatch: p
     done = desk(word, '--help')
     line = ' '.join(done.out.split('example: ')[1].split()).removeprefix('pinchdesk ')
     assert done.status == 0
-    words = [str(tmp_path / each) if at and line.split()[at - 1] == '-o' else each for at,
-             each in enumerate(line.split())]
+    words = [str(tmp_path / argument) if at and line.split()[at - 1] == '-o' else argument
+             for at, argument in enumerate(line.split())]
     assert desk(*words).status == 0
 
 

@@ -16,10 +16,10 @@ SHEET = 'xl/worksheets/sheet1.xml'
 def patched(old: str, new: str) -> bytes:
     """The workbook of the rows with a text of its sheet in place of another."""
     made = io.BytesIO()
-    held = zipfile.ZipFile(io.BytesIO(workbook(ROWS)))
+    unpatched_archive = zipfile.ZipFile(io.BytesIO(workbook(ROWS)))
     with zipfile.ZipFile(made, 'w', zipfile.ZIP_DEFLATED) as archive:
-        for part in held.infolist():
-            text = held.read(part.filename)
+        for part in unpatched_archive.infolist():
+            text = unpatched_archive.read(part.filename)
             if part.filename == SHEET:
                 assert old.encode() in text
                 text = text.replace(old.encode(), new.encode(), 1)
