@@ -106,11 +106,11 @@ def table_of(style: Style) -> str:
             f'duty ({style.heat_unit});least ({style.heat_unit});most ({style.heat_unit});price{priced};'
             'contribution (K)']
     for line in SOURCES.splitlines():
-        kind, name, *held = line.split()
+        kind, name, *values = line.split()
         ways = [(style.degrees, style.offset)] * 2 + [(style.flow, Fraction(0))] + [(style.heat, Fraction(0))] * 3 + [
             (style.price, Fraction(0))]
         cells = ['' if text == '-' else number(Fraction(text) * times + more)
-                 for text, (times, more) in zip(held, ways)]
+                 for text, (times, more) in zip(values, ways)]
         rows.append(';'.join((kind, name, *cells, str(OWN.get(name, '')))))
     return '\n'.join([*rows, f'forbid;{FORBID[0]};{FORBID[1]};;;;;;;', ''])
 
@@ -196,15 +196,16 @@ def files_of(style: Style, folder: Path, pinch: Pinch) -> Files:
     folder.mkdir(parents=True)
     scale, case = Fraction(style.scale), case_of(style)
     made = read_network(pinch.design(case_of(PLAIN)).text)
-    bad = Network(tuple(replace(each, duty=each.duty - 1000) if at == 0 and isinstance(each, Exchanger) else each
-                        for at, each in enumerate(made.statements)))
+    bad = Network(tuple(replace(statement, duty=statement.duty - 1000)
+                        if at == 0 and isinstance(statement, Exchanger) else statement
+                        for at, statement in enumerate(made.statements)))
     begun = read_network('exchanger X H1 C1 1000000\npass H1 X h1a\npass C1 X c1a\nsplit H2 h2a 600 h2b\n')
     texts = {'plant.csv': table_of(style), 'case.csv': print_case(case)}
-    texts |= {f'{name}.txt': print_network(scaled(each, case.basis))
-              for name, each in (('case-network', made), ('bad', bad), ('begun', begun))}
+    texts |= {f'{name}.txt': print_network(scaled(network, case.basis))
+              for name, network in (('case-network', made), ('bad', bad), ('begun', begun))}
     texts['case-study.txt'] = study_of(style)
     texts['changes.csv'] = changes_of(style)
-    sizes = [number(Fraction(each) * scale) for each in (1200, 800, 2000)]
+    sizes = [number(Fraction(size) * scale) for size in (1200, 800, 2000)]
     texts['site.csv'] = SITE.format(*sizes, scale='' if scale == 1 else f'#scale,{scale},,,,,\n')
     for name, text in texts.items():
         (folder / name).write_text(text, encoding='utf-8')
@@ -215,7 +216,7 @@ def files_of(style: Style, folder: Path, pinch: Pinch) -> Files:
 
 def study_of(style: Style) -> str:
     """The same prices in the unit of the table."""
-    price = {each: number(Fraction(each) * style.price) for each in (20, 21, 24, 60)}
+    price = {plain_price: number(Fraction(plain_price) * style.price) for plain_price in (20, 21, 24, 60)}
     return f'scenario,Today,,\nscenario,Winter,,\nprice,HP,{price[60]},\nprice,LP,{price[20]},\n' \
            f'span,HP,{price[21]},{price[24]}\n'
 
@@ -257,9 +258,9 @@ def token_of(text: str, style: Style) -> str:
 
 def unit_beside(text: str, style: Style) -> str:
     """The unit with which a heading, a title or a cell ends; empty where it ends with none."""
-    held = token_of(text, style)
+    token = token_of(text, style)
     return next((unit.strip('<>') for unit in ('<cost>', '<price>', *FIXED)
-                 if held == unit or held.endswith(f' {unit}')), '')
+                 if token == unit or token.endswith(f' {unit}')), '')
 
 
 def cells_of(title: str, headings: Sequence[str], rows: Sequence[Sequence[object]],
@@ -281,13 +282,13 @@ def cells_of(title: str, headings: Sequence[str], rows: Sequence[Sequence[object
 
 def texts_of(text: str, style: Style) -> Iterator[Told | str]:
     """A text in its parts: numbers with the costs and prices among them, and what stands between."""
-    held = token_of(text, style)
+    token = token_of(text, style)
     last = 0
-    for match in re.finditer(r'(?<![\w.])(-?\d+(?:\.\d+)?) <(cost|price)>', held):
-        yield held[last:match.start()]
+    for match in re.finditer(r'(?<![\w.])(-?\d+(?:\.\d+)?) <(cost|price)>', token):
+        yield token[last:match.start()]
         yield Told('text', Fraction(match[1]), match[2])
         last = match.end()
-    yield held[last:]
+    yield token[last:]
 
 
 def csv_cells(content: str) -> tuple[list[str], list[list[object]]]:
@@ -305,7 +306,7 @@ class Page(HTMLParser):
         super().__init__()
         self.tables: list[tuple[list[str], list[str], list[list[object]]]] = []
         self.texts: list[str] = []
-        self.held, self.number = '', False
+        self.text, self.number = '', False
         self.feed(re.sub(r'<style>.*?</style>|<h2>What was printed.*', '', content, flags=re.S))
 
     def handle_starttag(self, tag: str, attrs: list[tuple[str, str | None]]) -> None:
@@ -314,18 +315,18 @@ class Page(HTMLParser):
         elif tag == 'tr':
             self.tables[-1][2].append([])
         if tag in ('td', 'th', 'caption', 'p', 'h2'):
-            self.held, self.number = '', ('class', 'number') in attrs
+            self.text, self.number = '', ('class', 'number') in attrs
 
     def handle_data(self, data: str) -> None:
-        self.held += data
+        self.text += data
 
     def handle_endtag(self, tag: str) -> None:
         if tag == 'td':
-            self.tables[-1][2][-1].append(Decimal(self.held) if self.number and self.held.strip() else self.held)
+            self.tables[-1][2][-1].append(Decimal(self.text) if self.number and self.text.strip() else self.text)
         elif tag in ('th', 'caption'):
-            (self.tables[-1][1] if tag == 'th' else self.tables[-1][0]).append(self.held)
+            (self.tables[-1][1] if tag == 'th' else self.tables[-1][0]).append(self.text)
         elif tag in ('p', 'h2'):
-            self.texts.append(self.held)
+            self.texts.append(self.text)
 
     def told(self, style: Style) -> Iterator[Told | str]:
         for title, headings, rows in self.tables:

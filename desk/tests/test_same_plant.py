@@ -63,8 +63,8 @@ def skip_site(words: str, files: Files) -> None:
 
 
 def told_of(answer: Said, files: Files) -> Parts:
-    return [each for sheet in answer.sheets
-            for each in cells_of(sheet.title, sheet.headings, sheet.rows, files.style)]
+    return [cell for sheet in answer.sheets
+            for cell in cells_of(sheet.title, sheet.headings, sheet.rows, files.style)]
 
 
 def step_of(heading: str) -> Fraction:
@@ -115,19 +115,19 @@ def check_same(one: Parts, same: Parts, files: Files) -> None:
 
 def check_units(told: Parts) -> None:
     """Each number has its unit beside it, but for those of how many there are."""
-    for each in told:
-        assert isinstance(each, str) or each.unit or each.heading in COUNTS or each.row in COUNTS, each
+    for part in told:
+        assert isinstance(part, str) or part.unit or part.heading in COUNTS or part.row in COUNTS, part
 
 
 @pytest.mark.parametrize('words', TABLES)
 def test_each_number_of_a_table_is_that_of_the_same_plant(words: str, plain: Files, other: Files) -> None:
     skip_site(words, other)
-    answers = [each.answer(words) for each in (plain, other)]
+    answers = [plant.answer(words) for plant in (plain, other)]
     one, same = told_of(answers[0], plain), told_of(answers[1], other)
     check_units(same)
     check_same(one, same, other)
     for sheet in answers[1].sheets:
-        headings = [each for each in sheet.headings if each]
+        headings = [heading for heading in sheet.headings if heading]
         assert len(headings) == len(set(headings)), headings
 
 
@@ -140,25 +140,25 @@ def test_a_case_in_its_own_units_is_shown_in_si_where_that_is_asked(words: str, 
 @pytest.mark.parametrize('words', few_of(SEARCHES, ()))
 def test_what_searches_find_is_told_in_the_same_units(words: str, plain: Files, other: Files) -> None:
     """A search may end elsewhere; what it costs at least is the same, and so is what it began with."""
-    answers = [each.answer(words) for each in (plain, other)]
+    answers = [plant.answer(words) for plant in (plain, other)]
     if answers[0].sheets:
         check_units(told_of(answers[1], other))
         head: list[Parts] = [list(cells_of('', sheet.headings, sheet.rows[:1], files.style)) for sheet, files in
-                             zip((each.sheets[0] for each in answers), (plain, other))]
+                             zip((answer.sheets[0] for answer in answers), (plain, other))]
     else:
-        texts = [str(each.content).split('\nexchanger')[0].split('\n') for each in answers]
+        texts = [str(answer.content).split('\nexchanger')[0].split('\n') for answer in answers]
         assert all(re.search(r' kW$| MJ/h$| exchangers$|<cost>$|^# bound|^# duties', token_of(line, other.style))
                    for line in texts[1])
-        head = [[part for line in held if re.match('# (cost|floor)', line) for part in texts_of(line, files.style)]
-                for held, files in zip(texts, (plain, other))]
+        head = [[part for line in lines if re.match('# (cost|floor)', line) for part in texts_of(line, files.style)]
+                for lines, files in zip(texts, (plain, other))]
     check_same(head[0], head[1], other)
 
 
 def svg_texts(files: Files, words: str) -> Iterator[str]:
     content = files.answer(f'draw {words} -o {{out.svg}}').content
     assert isinstance(content, bytes)
-    for each in re.findall('<text.*?</text>', content.decode(), re.S):
-        yield unescape(re.sub('<[^>]*>', '', each)).strip()
+    for element in re.findall('<text.*?</text>', content.decode(), re.S):
+        yield unescape(re.sub('<[^>]*>', '', element)).strip()
 
 
 def parts_of_picture(files: Files, words: str) -> Parts:
@@ -211,7 +211,7 @@ def test_a_row_of_many_is_that_of_the_same_plant(words: str, plain: Files, other
     one, same = many_of(plain, words), many_of(other, words)
     check_units(same)
     if words.split()[0] in ('network', 'tradeoff'):
-        costs = [[each for each in told if isinstance(each, Told) and each.unit == 'cost'][:2] for told in (one, same)]
+        costs = [[part for part in told if isinstance(part, Told) and part.unit == 'cost'][:2] for told in (one, same)]
         check_same(list(costs[0]), list(costs[1]), other)
     else:
         check_same(one, same, other)
@@ -238,11 +238,11 @@ def test_cases_of_different_units_share_no_column_of_costs(words: str, plain: Fi
     (tmp_path / 'list').write_text('\n'.join(['case;network;study', *map(';'.join, rows), '']))
     word, *more = words.split()
     main(['many', word, str(tmp_path / 'list'), *more, '--form', 'csv', '--processes', '2'])
-    headings, held = csv_cells(capfd.readouterr().out)
+    headings, result_rows = csv_cells(capfd.readouterr().out)
     unit = other.style.cost_unit
     costs = [at for at, heading in enumerate(headings) if heading.endswith((' price times W', f' {unit}'))]
     assert costs
-    for row in held:
+    for row in result_rows:
         own = PLAIN.cost_unit if row[0] == rows[0][0] else unit
         assert all(headings[at].endswith(f' {own}') for at in costs if row[at] is not None)
 

@@ -31,8 +31,8 @@ def counted(pinch: Pinch, case: bytes | str) -> Units:
 @pytest.mark.parametrize('name', BOOKS)
 def test_the_numbers_are_those_of_the_books(name: str, pinch: Pinch) -> None:
     units, (wanted, found) = counted(pinch, example(f'{name}.csv')), BOOKS[name]
-    sides = sum(each.least for each in units.at_pinches)
-    assert (units.whole.least, sides) == wanted and all(each.exact for each in (units.whole, *units.at_pinches))
+    sides = sum(region.least for region in units.at_pinches)
+    assert (units.whole.least, sides) == wanted and all(region.exact for region in (units.whole, *units.at_pinches))
     assert len(read_network(example(f'{name}-network.txt')).exchangers) == found >= units.whole.least
 
 
@@ -50,19 +50,20 @@ def test_each_set_is_a_sum_that_adds_up(name: str, pinch: Pinch) -> None:
         assert counted_one.least == len(names) - counted_one.partition.most_sets
     for regions in (units.at_pinches, units.at_all):
         for stream in units.case.streams:
-            parts = [piece for each in regions for piece in each.region.pieces if piece.source is stream]
+            parts = [piece for counted_region in regions for piece in counted_region.region.pieces
+                     if piece.source is stream]
             assert sum(piece.heat for piece in parts) == stream.heat
-        used = {each.name: sum(piece.heat for region in regions for piece in region.region.pieces
-                               if piece.source.name == each.name) for each in units.case.utilities}
-        assert used == {each.name: units.flow.use(each.name) for each in units.case.utilities}
+        used = {utility.name: sum(piece.heat for region in regions for piece in region.region.pieces
+                                  if piece.source.name == utility.name) for utility in units.case.utilities}
+        assert used == {utility.name: units.flow.use(utility.name) for utility in units.case.utilities}
 
 
 def test_a_pinch_that_heat_crosses_is_no_cut_and_utility_pinches_are(pinch: Pinch) -> None:
     levels = counted(pinch, example('three-levels.csv'))
-    assert [(each.temperature, each.heat) for each in levels.crossed] == [(1450, 7_000_000)]
+    assert [(cross.temperature, cross.heat) for cross in levels.crossed] == [(1450, 7_000_000)]
     assert len(levels.at_pinches) == 1 and len(levels.at_all) == 2
     steam = counted(pinch, example('two-steam-levels.csv'))
-    assert [[each.least for each in level] for level in steam.levels] == [[4, 3], [4, 4, 3]]
+    assert [[region.least for region in level] for level in steam.levels] == [[4, 3], [4, 4, 3]]
 
 
 def test_the_text_has_the_sums_and_the_exchangers_of_a_network(pinch: Pinch) -> None:
@@ -96,7 +97,8 @@ def test_a_forbidden_match_parts_a_set_that_balances(pinch: Pinch) -> None:
             'cold,D,300,800,40,,\nforbid,A,C,,,,\n')
     units = counted(pinch, case)
     assert (units.whole.least, units.whole.least_joined) == (2, 3)
-    assert [each.parts for each in units.whole.sets if not each.joinable] == [(('A',), ('C',))]
+    assert [independent_set.parts for independent_set in units.whole.sets if not independent_set.joinable] == [
+        (('A',), ('C',))]
     sheets = units_sheets(units)
     assert sheets[0].headings[4] == 'that can be joined' and as_objects(*sheets[0].rows[0][3:5]) == (2, 3)
     assert sheets[1].rows[0][3] == 'forbidden matches or temperatures part it: A | C' and 0 in sheets[1].marked
@@ -112,8 +114,8 @@ HEATS = st.lists(st.tuples(st.integers(1, 12), st.booleans()), min_size=1, max_s
 def tried(members: tuple[Member, ...], near: tuple[int, ...] | None = None) -> int:
     """The most sets, by trying every subset that has the lowest member left."""
     size = len(members)
-    sums = [sum(each.heat for at, each in enumerate(members) if mask >> at & 1) for mask in range(1 << size)]
-    streams = sum(1 << at for at, each in enumerate(members) if not each.utility)
+    sums = [sum(member.heat for at, member in enumerate(members) if mask >> at & 1) for mask in range(1 << size)]
+    streams = sum(1 << at for at, member in enumerate(members) if not member.utility)
 
     @lru_cache(maxsize=None)
     def most(left: int) -> int:
@@ -133,28 +135,28 @@ def tried(members: tuple[Member, ...], near: tuple[int, ...] | None = None) -> i
 def balanced(draw: st.DrawFn) -> tuple[Member, ...]:
     """Members that balance, at least one of which is a stream."""
     hot, cold = draw(HEATS), draw(HEATS)
-    held = [Member(f'h{at}', heat, utility and at > 0) for at, (heat, utility) in enumerate(hot)]
-    held += [Member(f'c{at}', -heat, utility) for at, (heat, utility) in enumerate(cold)]
-    missing = -sum(each.heat for each in held)
-    return (*held, *([Member('x', missing)] if missing else []))
+    members = [Member(f'h{at}', heat, utility and at > 0) for at, (heat, utility) in enumerate(hot)]
+    members += [Member(f'c{at}', -heat, utility) for at, (heat, utility) in enumerate(cold)]
+    missing = -sum(member.heat for member in members)
+    return (*members, *([Member('x', missing)] if missing else []))
 
 
 @given(balanced())
 def test_the_partition_has_as_many_sets_as_trying_all_finds(members: tuple[Member, ...]) -> None:
     made = partition(members)
     assert made.exact and len(made.sets) == tried(members)
-    assert sorted(each.name for one in made.sets for each in one) == sorted(each.name for each in members)
+    assert sorted(member.name for one in made.sets for member in one) == sorted(member.name for member in members)
     for one in made.sets:
-        assert sum(each.heat for each in one) == 0 and not all(each.utility for each in one)
+        assert sum(member.heat for member in one) == 0 and not all(member.utility for member in one)
 
 
 @given(balanced(), st.integers(0, 2 ** 16 - 1))
 def test_sets_that_can_be_joined_are_as_many_as_trying_all_finds(members: tuple[Member, ...], bars: int) -> None:
     """Each pair of a hot and a cold member is allowed or not by a bit."""
-    hots = [at for at, each in enumerate(members) if each.heat > 0]
+    hots = [at for at, member in enumerate(members) if member.heat > 0]
     near = [0] * len(members)
     for at, hot in enumerate(hots):
-        for cold in (each for each in range(len(members)) if each not in hots):
+        for cold in (index for index in range(len(members)) if index not in hots):
             if bars >> ((at * 5 + cold) % 16) & 1:
                 near[hot] |= 1 << cold
                 near[cold] |= 1 << hot
@@ -164,8 +166,8 @@ def test_sets_that_can_be_joined_are_as_many_as_trying_all_finds(members: tuple[
 
 
 def test_too_many_sources_have_bounds_and_no_guess() -> None:
-    members = [Member(f's{at}', heat) for at, heat in enumerate((3 * each + 1) * (-1) ** each for each in range(44))]
-    members.append(Member('x', -sum(each.heat for each in members)))
+    members = [Member(f's{at}', heat) for at, heat in enumerate((3 * index + 1) * (-1) ** index for index in range(44))]
+    members.append(Member('x', -sum(member.heat for member in members)))
     made = partition(members)
     assert not made.exact and made.least_exchangers < made.found_exchangers
     assert made.members == 45 and made.most_sets <= 45 // 2
@@ -175,7 +177,7 @@ def test_too_many_sources_have_bounds_and_no_guess() -> None:
 
 def test_a_sum_that_is_a_little_off_is_no_set(pinch: Pinch) -> None:
     text = example('four-stream.csv').decode().replace('cold,C3,800,1400,400', 'cold,C3,800,1401,400')
-    assert [len(each.sets) for each in counted(pinch, text).at_pinches] == [1, 1]
+    assert [len(region.sets) for region in counted(pinch, text).at_pinches] == [1, 1]
 
 
 def test_a_network_that_is_rejected_is_counted_and_told(tmp_path: Path, capsys: pytest.CaptureFixture[str]) -> None:

@@ -18,7 +18,7 @@ from pinchdesk.cli.main import main
 from pinchdesk.formats.comments import Basis
 from pinchdesk.report.what_if_sheets import rounding_notes, what_if_sheets
 
-FOUR, STEAM, COLUMN = (example(f'{each}.csv') for each in ('four-stream', 'two-steam-levels', 'column'))
+FOUR, STEAM, COLUMN = (example(f'{name}.csv') for name in ('four-stream', 'two-steam-levels', 'column'))
 HEAD = 'scenario;source;field;value\n'
 
 
@@ -42,7 +42,7 @@ def refusal(case: bytes | str, table: str | bytes, name: str = 't.csv') -> str:
 
 def stream(case: Case, name: str) -> tuple[object, ...]:
     found = case.source(name)
-    return tuple(getattr(found, each) for each in ('supply', 'target', 'cp', 'load', 'contribution'))
+    return tuple(getattr(found, field) for field in ('supply', 'target', 'cp', 'load', 'contribution'))
 
 
 VALUES = [
@@ -62,16 +62,16 @@ VALUES = [
 def test_a_value_is_new_or_a_change_in_its_unit(row: str, name: str, wanted: tuple[int, ...], pinch: Pinch) -> None:
     made = changed(pinch, FOUR, HEAD + f'S;{row}\n')
     assert stream(made, name) == wanted
-    others = [each for each in read_case(FOUR).streams if each.name != name]
-    assert [each for each in made.streams if each.name != name] == others
+    others = [source for source in read_case(FOUR).streams if source.name != name]
+    assert [source for source in made.streams if source.name != name] == others
 
 
 def test_columns_of_fields_with_units_and_several_rows_are_one_scenario(pinch: Pinch) -> None:
     table = ('# what the plant asked,,,\nscenario,stream,supply [°F],CP (MW/K),note\nS,C1,+18,,warmer\n'
              'T,C3,,0.005,\nS,H2,,-10 %,less\n')
     made = asked(pinch, FOUR, table)
-    assert [(each.variant.name, len(each.steps)) for each in made.outcomes] == [('S', 2), ('T', 1)]
-    first, second = (each.case for each in made.outcomes)
+    assert [(outcome.variant.name, len(outcome.steps)) for outcome in made.outcomes] == [('S', 2), ('T', 1)]
+    first, second = (outcome.case for outcome in made.outcomes)
     assert stream(first, 'C1')[0] == 300 and stream(first, 'H2')[2] == 270 and stream(second, 'C3')[2] == 500
     assert stream(second, 'C1')[0] == 200
 
@@ -89,17 +89,17 @@ def test_a_workbook_says_the_same(pinch: Pinch) -> None:
 def test_utilities_and_latent_streams_and_the_whole_case_change(pinch: Pinch) -> None:
     made = changed(pinch, STEAM, HEAD + 'S;LP;level;100\nS;LP;most;0,5\nS;LP;least;0,25 kW\nS;LP;price;2\n')
     steam = made.source('LP')
-    assert [getattr(steam, each) for each in ('level', 'most', 'least', 'price')] == [1000, 500, 250, 2]
+    assert [getattr(steam, field) for field in ('level', 'most', 'least', 'price')] == [1000, 500, 250, 2]
     latent = changed(pinch, COLUMN, HEAD + 'S;reboiler;level;+2\nS;reboiler;load;-10 %\nS;all;contribution;+1\n')
     assert stream(latent, 'reboiler') == (1180, 1180, 0, 3_309_300, 25) and latent.contribution == 60
-    assert {each.contribution for each in latent.streams} == {25, 60} and latent.utilities[0].contribution == 60
+    assert {source.contribution for source in latent.streams} == {25, 60} and latent.utilities[0].contribution == 60
 
 
 def test_prices_and_heats_are_in_the_units_of_the_table_that_the_case_came_from(pinch: Pinch) -> None:
     basis = Basis(Fraction(10), 'EUR/MWh', Fraction(100), 'EUR/h', Fraction(10) ** 8)
     case = print_case(replace(read_case(STEAM), basis=basis))
     made = changed(pinch, case, HEAD + 'S;LP;price;10,5 EUR/MWh\nS;LP;most;3\nS;H2;CP;0,1\n')
-    assert [getattr(made.source('LP'), each) for each in ('price', 'most')] == [1050, 30_000]
+    assert [getattr(made.source('LP'), field) for field in ('price', 'most')] == [1050, 30_000]
     assert stream(made, 'H2')[2] == 100
     assert 'the prices of the case are EUR/MWh, and `EUR/GJ` is another unit' in \
         refusal(case, HEAD + 'S;LP;price;10 EUR/GJ\n')
@@ -141,8 +141,9 @@ def test_headings_are_known_or_refused() -> None:
 def test_each_row_is_what_pinch_says_of_the_changed_case(pinch: Pinch) -> None:
     made = asked(pinch, STEAM, example('changes.csv'))
     assert not made.refused and not made.infeasible
-    for each in (made.base, *made.outcomes):
-        assert each.targets == pinch.targets(print_case(each.case)) and each.flow == pinch.flow(print_case(each.case))
+    for outcome in (made.base, *made.outcomes):
+        assert outcome.targets == pinch.targets(print_case(outcome.case)) and \
+            outcome.flow == pinch.flow(print_case(outcome.case))
     rows = what_if_sheets(made)[0].rows
     assert [as_objects(*row[:6]) for row in rows[:3]] == [
         ('base', 20, None, 60, None, 85), ('feed warmer', 20, 0, 80, 20, 85),
@@ -187,11 +188,11 @@ def test_a_hostile_name_is_made_harmless(pinch: Pinch, tmp_path: Path, capsys: p
 
 
 def test_plus_and_minus_are_what_pinch_says_of_a_little_more(pinch: Pinch) -> None:
-    made = {each.stream.name: each for each in what_if(FOUR, (), pinch).plus_minus}
+    made = {risen.stream.name: risen for risen in what_if(FOUR, (), pinch).plus_minus}
     # Above the pinch a hot stream's CP is a plus, and so is a cold one's that ends there (Linnhoff and Vredeveld 1984).
-    assert [(made[each].size, made[each].supply, made[each].target) for each in ('C1', 'H2', 'C3', 'H4')] == [
+    assert [(made[name].size, made[name].supply, made[name].target) for name in ('C1', 'H2', 'C3', 'H4')] == [
         (550, 0, 2000), (-800, -3000, 0), (600, -1500, 4000), (-600, -1500, 0)]
-    latent = {each.stream.name: each for each in what_if(COLUMN, (), pinch).plus_minus}
+    latent = {risen.stream.name: risen for risen in what_if(COLUMN, (), pinch).plus_minus}
     assert (latent['reboiler'].size, latent['reboiler'].supply, latent['condenser'].size) == (1000, 30_000, 0)
     sheet = what_if_sheets(what_if(COLUMN, (), pinch))[0]
     assert sheet.headings[2:] == (
