@@ -17,8 +17,8 @@ def made(text: str | bytes, wanted: Wanted = TEN, name: str = 't.csv') -> Conver
 
 
 def streams(text: str | bytes, wanted: Wanted = TEN) -> list[tuple[object, ...]]:
-    return [(each.side.value, each.name, each.supply, each.target, each.cp, each.load)
-            for each in made(text, wanted).case.streams]
+    return [(stream.side.value, stream.name, stream.supply, stream.target, stream.cp, stream.load)
+            for stream in made(text, wanted).case.streams]
 
 
 def refusal(text: str | bytes, wanted: Wanted = TEN) -> str:
@@ -42,6 +42,6 @@ def workbook(rows: list[list[object]], **sheets: list[list[object]]) -> bytes:
 
 
 def saved(book: openpyxl.Workbook) -> bytes:
-    held = io.BytesIO()
-    book.save(held)
-    return held.getvalue()
+    buffer = io.BytesIO()
+    book.save(buffer)
+    return buffer.getvalue()

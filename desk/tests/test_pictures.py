@@ -75,8 +75,8 @@ def test_no_bar_passes_through_the_label_of_another(name: str, pinch: Pinch) -> 
     figure = grid(pinch, example(f'{name}.csv'), example(f'{name}-network.txt'))
     bars = [points for points, _ in bars_of(figure)]
     assert len(bars) == len(plant_of(example(f'{name}.csv'), example(f'{name}-network.txt')).passages)
-    for text, box, each in texts_of(figure):
-        if each.get_zorder() == 7:
+    for text, box, drawn in texts_of(figure):
+        if drawn.get_zorder() == 7:
             through = [bar for bar in bars if any(meets(box, one, other) for one, other in zip(bar, bar[1:]))]
             assert len(through) == 1, text
 
@@ -85,8 +85,8 @@ def test_no_bar_passes_through_the_label_of_another(name: str, pinch: Pinch) -> 
 def test_no_bar_and_no_pinch_passes_through_a_number(name: str, pinch: Pinch) -> None:
     figure = grid(pinch, example(f'{name}.csv'), example(f'{name}-network.txt'))
     bars = [points for points, _ in bars_of(figure)]
-    for text, box, each in texts_of(figure):
-        if each.get_zorder() != 7:
+    for text, box, drawn in texts_of(figure):
+        if drawn.get_zorder() != 7:
             assert not any(meets(box, one, other) for bar in bars for one, other in zip(bar, bar[1:])), text
 
 
@@ -104,7 +104,7 @@ def test_three_branches_have_their_own_shares(pinch: Pinch) -> None:
     figure = grid(pinch, THREE, THREE_NETWORK)
     assert isinstance(pinch.audit(THREE, THREE_NETWORK), Accepted)
     texts = svg_texts(figure)
-    assert [each for each in texts if each.endswith('%')] == ['50 %', '30 %', '20 %']
+    assert [share for share in texts if share.endswith('%')] == ['50 %', '30 %', '20 %']
     assert_readable(figure)
 
 
@@ -117,10 +117,10 @@ def test_a_missed_target_is_drawn_as_missed(pinch: Pinch) -> None:
     assert isinstance(verdict, Rejected) and verdict.reason == 'MissedTarget'
     figure = grid(pinch, content, less)
     assert_readable(figure)
-    red = [text for text, _, each in texts_of(figure) if each.get_color() == FAULT]
+    red = [text for text, _, drawn in texts_of(figure) if drawn.get_color() == FAULT]
     found = Shown().temperature(verdict.found or Fraction(0), 3)
-    assert any(found in each and 'target' in each for each in red)
-    assert any(each.startswith('Rejected at ') for each in red)
+    assert any(found in label and 'target' in label for label in red)
+    assert any(label.startswith('Rejected at ') for label in red)
 
 
 OPEN = b"""exchanger E1 S1 S3 120000\nexchanger open-1 S1 COLD 60000\nexchanger open-2 S2 COLD 240000
@@ -143,9 +143,9 @@ def test_what_is_still_open_is_dashed(pinch: Pinch) -> None:
 def test_what_works_across_the_pinch_is_marked(pinch: Pinch) -> None:
     content, text = example('preheater.csv'), example('preheater-network.txt')
     figure = grid(pinch, content, text)
-    assert any('↯ 1' in each for each in svg_texts(figure))
+    assert any('↯ 1' in label for label in svg_texts(figure))
     marked = [colour for _, colour in bars_of(figure) if colour == ACROSS]
-    assert len(marked) == sum('↯' in each for each in svg_texts(figure) if not each.startswith('on both sides'))
+    assert len(marked) == sum('↯' in label for label in svg_texts(figure) if not label.startswith('on both sides'))
 
 
 def test_of_several_pinches_each_is_drawn_and_streams_begin_there(pinch: Pinch) -> None:
@@ -157,8 +157,8 @@ def test_of_several_pinches_each_is_drawn_and_streams_begin_there(pinch: Pinch) 
     assert len(targets.pinches) > 1
     figure = grid(pinch, content, text)
     texts = ' '.join(svg_texts(figure))
-    for each in targets.pinches:
-        assert f'pinch {Shown().temperature(each)} °C' in texts
+    for pinch_at in targets.pinches:
+        assert f'pinch {Shown().temperature(pinch_at)} °C' in texts
     assert len(dashed_of(figure)) == len(targets.pinches)
     # Two numbers beside each other would be read as one.
     boxes = [(text, box.padded(3)) for text, box, _ in texts_of(figure) if text.isdigit()]
@@ -199,12 +199,12 @@ def test_a_sweep_has_a_gap_in_its_cost_alone(pinch: Pinch) -> None:
     figure = sweep_figure(read_case(content), sweep)
     assert_readable(figure)
     lines = {line.get_label().split(':')[0]: line for axes in figure.axes for line in axes.get_lines()}
-    gaps = [each.cost is None for each in sweep.points]
+    gaps = [point.cost is None for point in sweep.points]
     assert any(gaps)
-    assert list(lines['hot target'].get_ydata()) == [each.hot / 1000 for each in sweep.points]
-    assert list(lines['cold target'].get_ydata()) == [each.cold / 1000 for each in sweep.points]
+    assert list(lines['hot target'].get_ydata()) == [point.hot / 1000 for point in sweep.points]
+    assert list(lines['cold target'].get_ydata()) == [point.cold / 1000 for point in sweep.points]
     if 'least cost (right scale)' in lines:
-        assert [each != each for each in lines['least cost (right scale)'].get_ydata()] == gaps
+        assert [cost != cost for cost in lines['least cost (right scale)'].get_ydata()] == gaps
 
 
 @pytest.mark.parametrize('name', few_of(('crude', 'three-levels', 'refinery'), ('three-levels',)))
@@ -212,7 +212,7 @@ def test_of_a_sweep_neither_the_legend_nor_the_title_of_an_axis_is_cut(name: str
     content = example(f'{name}.csv')
     figure = sweep_figure(read_case(content), pinch.sweep(content, 0, 200, 10))
     assert_readable(figure)
-    assert any('least cost, ' in each for each in svg_texts(figure))
+    assert any('least cost, ' in text for text in svg_texts(figure))
 
 
 def test_large_costs_and_long_units_have_room(pinch: Pinch) -> None:
@@ -220,7 +220,8 @@ def test_large_costs_and_long_units_have_room(pinch: Pinch) -> None:
     unit = 'a-money-with-a-long-name per year and plant'
     content = f'#cost,{unit},1,,,,\n'.encode() + example('crude.csv')
     case, answer = read_case(content), pinch.sweep(content, 0, 100, 20)
-    points = tuple(replace(each, cost=(each.cost or 10) * 10 ** 6, hot=each.hot * 10 ** 4) for each in answer.points)
+    points = tuple(replace(point, cost=(point.cost or 10) * 10 ** 6, hot=point.hot * 10 ** 4)
+                   for point in answer.points)
     assert_readable(sweep_figure(case, replace(answer, points=points)))
     segments = tuple(Segment(at * 100000, (at + 1) * 100000, -10 ** 15, 10 ** 10) for at in range(-3, 3))
     assert_readable(prices_figure(case, Prices((SpanAnswer('LONGEST-NAME-16B', segments),))))

@@ -27,8 +27,8 @@ CHANGES = 'scenario;source;field;value\nhotter;S1;supply;+1 K\n'
 def desk(capfd: pytest.CaptureFixture[str]) -> Desk:
     def run(*words: str) -> Done:
         status = main(list(words))
-        held = capfd.readouterr()
-        return Done(status, held.out, held.err)
+        printed = capfd.readouterr()
+        return Done(status, printed.out, printed.err)
     return run
 
 
@@ -59,7 +59,7 @@ MORE = {'many targets': 'tc3.csv', 'many targets --scenarios changes.csv': 'tc3.
 
 
 def unchanged(folder: Path) -> dict[str, bytes]:
-    return {each.name: each.read_bytes() for each in folder.iterdir() if each.is_file()}
+    return {path.name: path.read_bytes() for path in folder.iterdir() if path.is_file()}
 
 
 @pytest.mark.parametrize('words, files', READ, ids=[words for words, _ in READ])
@@ -82,7 +82,7 @@ def test_no_output_goes_over_a_file_that_is_read(words: str, files: str, desk: D
 @pytest.mark.parametrize('words', ['draw curves tc3.csv', 'draw grid tc3.csv net.txt', 'page tc3.csv net.txt',
                                    'draw prices steam.csv study.csv', 'draw site site.csv', 'draw sweep tc3.csv 0 9 3'])
 def test_no_picture_goes_over_a_file_that_is_read(words: str, desk: Desk, here: Path) -> None:
-    for name in [each for each in words.split() if '.' in each]:
+    for name in [word for word in words.split() if '.' in word]:
         os.link(name, 'x.html' if words.startswith('page') else 'x.svg')
         ended = desk(*words.split(), '-o', 'x.html' if words.startswith('page') else 'x.svg')
         assert ended.status == 2 and 'is an input' in ended.err
@@ -166,9 +166,11 @@ LETTERS = st.text(st.sampled_from('ab-2./'), min_size=1, max_size=6)
 @given(st.lists(st.tuples(LETTERS, st.sampled_from(['', 'base', 's/1', '2'])), min_size=1, max_size=8))
 def test_names_of_answers_are_apart_and_fit(cases: list[tuple[str, str]]) -> None:
     rows = [Listed({'case': name}, {}) for name, _ in cases]
-    rows = [replace(row, names={**row.names, SCENARIO: each}) if each else row for row, (_, each) in zip(rows, cases)]
+    rows = [replace(row, names={**row.names, SCENARIO: scenario}) if scenario else row
+            for row, (_, scenario) in zip(rows, cases)]
     names = names_of(rows, 'txt')
-    assert len(set(names)) == len(rows) and all('/' not in each and each not in ('', '.', '..') for each in names)
+    assert len(set(names)) == len(rows) and all('/' not in file_name and file_name not in ('', '.', '..')
+                                                for file_name in names)
 
 
 # What is read.

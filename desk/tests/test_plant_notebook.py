@@ -50,22 +50,22 @@ def test_a_case_file_is_told_and_takes_no_options() -> None:
 
 
 def test_targets_flow_and_sweep_are_those_of_pinch(pinch: Pinch) -> None:
-    text, held = example('two-steam-levels.csv'), read(LEVELS)
-    targets, flow, shown = pinch.targets(text), pinch.flow(text), held.targets()
-    assert (shown.text, held.flow().text) == (targets.text, flow.text) and isinstance(flow, HeatFlow)
+    text, levels = example('two-steam-levels.csv'), read(LEVELS)
+    targets, flow, shown = pinch.targets(text), pinch.flow(text), levels.targets()
+    assert (shown.text, levels.flow().text) == (targets.text, flow.text) and isinstance(flow, HeatFlow)
     assert shown.exact.hot_kw == Fraction(targets.hot, 1000) and shown.hot_kw == Decimal(targets.hot) / 1000
-    assert shown.exact.pinches_c == tuple(Fraction(each, 10) for each in targets.pinches)
-    assert held.flow().cost == flow.cost and held.flow().feasible
-    assert held.flow().uses_kw == {each.name: Decimal(each.heat) / 1000 for each in flow.uses}
-    sweep, printed = held.sweep(0, Decimal('20.0'), 2.4, workers=1), pinch.sweep(text, 0, 100, 12)
+    assert shown.exact.pinches_c == tuple(Fraction(pinch_at, 10) for pinch_at in targets.pinches)
+    assert levels.flow().cost == flow.cost and levels.flow().feasible
+    assert levels.flow().uses_kw == {use.name: Decimal(use.heat) / 1000 for use in flow.uses}
+    sweep, printed = levels.sweep(0, Decimal('20.0'), 2.4, workers=1), pinch.sweep(text, 0, 100, 12)
     assert sweep.text == printed.text and sweep.points[1].difference_k == Decimal('2.4')
     for point, row in zip(sweep.points, printed.points, strict=True):
         assert point.hot_kw * 1000 == row.hot and point.cost == row.cost
 
 
 def test_without_a_heat_flow_there_is_no_cost() -> None:
-    held = read(EXAMPLES / 'too-little-cooling.csv')
-    flow, units = held.flow(), held.units()
+    short_of_cooling = read(EXAMPLES / 'too-little-cooling.csv')
+    flow, units = short_of_cooling.flow(), short_of_cooling.units()
     assert (flow.feasible, flow.cost, flow.uses_kw, units.least_exchangers) == (False, None, {}, None)
     assert 'No heat flow' in flow._repr_html_()
 
@@ -79,7 +79,7 @@ def test_an_audit_is_that_of_pinch(pinch: Pinch) -> None:
         assert audit.text == verdict.text and audit.accepted and audit.exact
         assert (audit.exact.hot_kw, audit.exact.cost) == (verdict.hot / 1000, verdict.cost)
         assert audit.excess_kw == Decimal(int(verdict.excess)) / 1000 and audit.floor == verdict.floor
-    assert [each.title for each in plant().table(NETWORK).sheets][:1] == ['Exchangers']
+    assert [sheet.title for sheet in plant().table(NETWORK).sheets][:1] == ['Exchangers']
     rejected = plant().audit('# nothing is done\n')
     assert (rejected.accepted, rejected.hot_kw, rejected.cost, rejected.exact) == (False, None, None, None)
     with pytest.raises(Refused, match='preheater.csv.*network line 1|network line 1'):
@@ -87,16 +87,16 @@ def test_an_audit_is_that_of_pinch(pinch: Pinch) -> None:
 
 
 def test_a_network_is_searched_and_given_back() -> None:
-    held = read(EXAMPLES / 'tc3.csv')
-    found = held.network(above='2 %', seconds=3)
-    audit = held.audit(found)
+    tc3_plant = read(EXAMPLES / 'tc3.csv')
+    found = tc3_plant.network(above='2 %', seconds=3)
+    audit = tc3_plant.audit(found)
     assert audit.accepted and (audit.cost, audit.floor) == (found.cost, found.floor)
     assert audit.exact == found.exact and found.exact.cost <= found.exact.floor * Fraction(102, 100)
     assert audit.exchangers == found.exchangers and 'bound' in found.bounds
     with pytest.raises(WordsError, match='not both'):
-        held.network(above=2, cost=115000)
+        tc3_plant.network(above=2, cost=115000)
     with pytest.raises(WordsError, match='at least 0'):
-        held.network(above=-1)
+        tc3_plant.network(above=-1)
 
 
 def every_answer() -> list[PlantAnswer]:
@@ -117,7 +117,8 @@ def test_each_answer_shows_itself_and_its_frames_are_columns_of_numbers() -> Non
             assert list(frame.columns) == list(dict.fromkeys(frame.columns)) and '' not in frame.columns
             for heading in frame.columns:
                 numbers = pandas.api.types.is_float_dtype(frame[heading])
-                assert numbers or all(each is None or isinstance(each, str) for each in frame[heading])
+                assert numbers or all(frame_cell is None or isinstance(frame_cell, str)
+                                      for frame_cell in frame[heading])
             assert all(f'>{cell:f}</td>' in html for row in sheet.rows for cell in row if isinstance(cell, Decimal))
         assert answer.frame().equals(answer.sheets[0].frame())
         assert dataclasses.is_dataclass(answer) and str(answer)
@@ -141,11 +142,12 @@ def test_what_is_shown_is_escaped() -> None:
 
 
 def test_prices_and_scenarios_and_the_rest(pinch: Pinch) -> None:
-    held, study = read(LEVELS), EXAMPLES / 'steam-prices.csv'
-    made = held.prices(study, 1)
+    levels, study = read(LEVELS), EXAMPLES / 'steam-prices.csv'
+    made = levels.prices(study, 1)
     printed = pinch.prices(example('two-steam-levels.csv'), study.read_bytes())
-    assert made.text == printed.text and len(made.costs) == sum(1 for each in printed.answers if hasattr(each, 'name'))
-    changed = held.what_if(EXAMPLES / 'changes.csv')
+    assert made.text == printed.text and len(made.costs) == sum(
+        1 for answer in printed.answers if hasattr(answer, 'name'))
+    changed = levels.what_if(EXAMPLES / 'changes.csv')
     for name, case in changed.cases.items():
         if name not in changed.faults:
             assert changed.exact.hot_kw[name] == Fraction(pinch.targets(case).hot, 1000)

@@ -27,7 +27,7 @@ def test_utilities_are_what_their_titles_and_names_say() -> None:
         (BOOK, [('HP-steam', 'hot', 2390), ('Cooling-water', 'cold', 250)]))
     for content, levels in wanted:
         case = made(content, Wanted('10 K'), 't').case
-        assert [(each.name, each.side.value, each.level) for each in case.utilities] == levels
+        assert [(utility.name, utility.side.value, utility.level) for utility in case.utilities] == levels
     assert 'has to say heater or cooler' in refusal('Utilities\nName;Level;Price\nBFW;150;3\n\nName;Tin;Tout;CP\n'
                                                     'H1;150;60;2\n')
 
@@ -44,7 +44,7 @@ def test_coefficients_are_kept_as_comments_with_their_units() -> None:
 
 def test_columns_that_are_not_known_are_passed_over_and_reported() -> None:
     table = made(HYSYS, Wanted('10 K'))
-    assert {each for each in table.notes} == {f'passed over, the column `{title}`' for title in
+    assert {note for note in table.notes} == {f'passed over, the column `{title}`' for title in
                                               ('Segm.', 'Clean/dirty')}
     assert "`Tagret` is not known" in refusal('Name;Tin;Tagret;CP\nH;150;60;2\n')
 
@@ -75,7 +75,7 @@ EXCHANGERS = ('Exchanger;Tin (°C);Tout (°C);Duty (kW)\nE1;150;60;180\n',
 def test_a_list_of_exchangers_is_no_table_of_streams(other: str) -> None:
     table = made(f'{HEAD}\n{other}')
     assert [stream.name for stream in table.case.streams] == ['H', 'C']
-    assert any('row 6: passed over, of another table: `E1' in each for each in table.notes)
+    assert any('row 6: passed over, of another table: `E1' in note for note in table.notes)
     assert refusal(other)
     assert 'a further table, of `Gadget`' in refusal(f'{HEAD}\n{EXCHANGERS[0]}'.replace('Exchanger', 'Gadget'))
 
@@ -118,9 +118,9 @@ def test_a_table_on_its_side_is_refused_by_its_places() -> None:
 
 def test_masses_go_with_specific_and_latent_heats() -> None:
     masses = 'Name;m (t/h);cp (kJ/kg K);Tin;Tout\nH;7,2;4,2;150 °C;60 °C\n'
-    assert [each.cp for each in made(masses).case.streams] == [840]
+    assert [stream.cp for stream in made(masses).case.streams] == [840]
     latent = 'Kind;Name;Flow (t/h);Latent heat (kJ/kg);Tin;Tout\nhot;V;3,6;2000;120;120\n'
-    assert [each.load for each in made(latent).case.streams] == [2_000_000]
+    assert [stream.load for stream in made(latent).case.streams] == [2_000_000]
     assert 'needs a mass flow beside it' in refusal('Name;m;cp (kJ/kg K);Tin;Tout\nH;2;4,2;150;60\n')
 
 
@@ -128,14 +128,14 @@ def test_a_price_of_steam_per_tonne_needs_its_latent_heat() -> None:
     text = 'Kind;Name;Tin;Tout;CP;Price;Latent heat (kJ/kg)\nhot;H;150;60;2;;\nheater;S;200;;;18 EUR/t;1800\n'
     table = made(text)
     assert table.case.basis.price_unit == 'EUR/MWh' and table.case.utilities[0].price == 36
-    assert any('18 EUR/t is 36 EUR/MWh, by a latent heat of 1800 kJ/kg' in each for each in table.notes)
+    assert any('18 EUR/t is 36 EUR/MWh, by a latent heat of 1800 kJ/kg' in note for note in table.notes)
     assert 'is a price per mass' in refusal(text.replace(';Latent heat (kJ/kg)', ';Remark').replace(';1800', ';'))
 
 
 def test_steam_of_a_pressure_is_priced_by_the_steam_tables() -> None:
     pytest.importorskip('iapws')
     text = 'Kind;Name;Tin;Tout;CP;Price (EUR/t);Pressure\nhot;H;150;60;2;;\nheater;S;180;;;20;10 bar\n'
-    assert any('by a latent heat of 2014.6 kJ/kg at 10 bar' in each for each in made(text).notes)
+    assert any('by a latent heat of 2014.6 kJ/kg at 10 bar' in note for note in made(text).notes)
 
 
 def test_a_title_may_say_the_least_difference() -> None:
@@ -149,7 +149,7 @@ def test_hot_and_cold_streams_on_sheets_of_their_own() -> None:
     hot: Rows = [head, ['H1', 150, 60, 2]]
     cold: Rows = [head, ['C1', 20, 60, 2]]
     both: Rows = [*hot, *cold[1:]]
-    assert [each.name for each in made(workbook(hot, Cold=cold)).case.streams] == ['H1', 'C1']
+    assert [stream.name for stream in made(workbook(hot, Cold=cold)).case.streams] == ['H1', 'C1']
     assert 'have streams: use --sheet' in refusal(workbook(hot, Other=both))
     assert 'have streams: use --sheet' in refusal(workbook([['Plant 7']], Base=both, Revamp=both))
     read = made(workbook(both, Revamp=both))

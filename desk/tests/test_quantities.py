@@ -146,7 +146,7 @@ def test_prices_per_energy_and_per_year_go_together_by_the_hours() -> None:
     made = priced([Fraction(120), Fraction(20)], units, Fraction(8000))
     assert made.prices == (120, 160)
     # 1 kW for a year at 120; 1 kW over 8000 h is 8 MWh at 20.
-    assert [1000 * each / made.basis.cost_divisor for each in made.prices] == [120, 160]
+    assert [1000 * price / made.basis.cost_divisor for price in made.prices] == [120, 160]
     assert made.basis.cost_unit == 'EUR/a'
     with pytest.raises(PriceFault):
         priced([Fraction(120), Fraction(20)], units, None)
@@ -159,9 +159,9 @@ def test_prices_per_energy_and_per_year_go_together_by_the_hours() -> None:
 @given(some.lists(some.decimals(allow_nan=False, allow_infinity=False, min_value=-10 ** 7, max_value=10 ** 7, places=4),
                   min_size=1, max_size=5))
 def test_prices_keep_their_proportions_or_are_rounded(values: list[Decimal]) -> None:
-    exact = [Fraction(each) for each in values]
+    exact = [Fraction(given_price) for given_price in values]
     made = priced(exact, [None] * len(exact), None)
-    assert all(abs(each) <= 10 ** 6 for each in made.prices)
+    assert all(abs(whole_price) <= 10 ** 6 for whole_price in made.prices)
     divisor = made.basis.price_divisor
     for at, (price, value) in enumerate(zip(made.prices, exact)):
         apart = Fraction(1, 2) if made.rounded(at) else Fraction(0)

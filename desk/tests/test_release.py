@@ -34,7 +34,7 @@ SHARED = st.lists(st.builds(Member, PATHS, st.binary(max_size=30)), unique_by=la
 
 
 def wrong(findings: list[checked.Finding]) -> list[str]:
-    return [each.text for each in findings if each.state is State.WRONG]
+    return [finding.text for finding in findings if finding.state is State.WRONG]
 
 
 def test_the_version_stands_in_one_place_and_both_files_and_the_change_log_have_it() -> None:
@@ -153,15 +153,15 @@ def test_a_wheel_is_the_same_bytes_each_time_and_its_record_has_each_file(shared
     few = [file for file in desk() if file.path.startswith('pinchdesk-')]
     first = wheel_file.wheel('9.9.9', few, shared, program, COMMIT, False)
     assert first == wheel_file.wheel('9.9.9', few[::-1], shared[::-1], program, COMMIT, False)
-    with zipfile.ZipFile(io.BytesIO(first)) as held:
-        names = held.namelist()
-        rows = list(csv.reader(io.StringIO(held.read('pinchdesk-9.9.9.dist-info/RECORD').decode())))
+    with zipfile.ZipFile(io.BytesIO(first)) as archive:
+        names = archive.namelist()
+        rows = list(csv.reader(io.StringIO(archive.read('pinchdesk-9.9.9.dist-info/RECORD').decode())))
         assert [row[0] for row in rows] == names and rows[-1][1:] == ['', '']
         for name, total, size in rows[:-1]:
-            content = held.read(name)
+            content = archive.read(name)
             assert (total, size) == (f'sha256={wheel_file.sum_of(Member(name, content))}', str(len(content)))
-        modes = {name: held.getinfo(name).external_attr >> 16 for name in names}
-        about = held.read('pinchdesk-9.9.9.dist-info/WHEEL').decode().splitlines()
+        modes = {name: archive.getinfo(name).external_attr >> 16 for name in names}
+        about = archive.read('pinchdesk-9.9.9.dist-info/WHEEL').decode().splitlines()
     assert {name for name, mode in modes.items() if mode & 0o111} == {'pinchdesk-9.9.9.data/scripts/pinch'}
     assert about[2:] == ['Root-Is-Purelib: false', 'Tag: py3-none-manylinux_2_34_x86_64']
 

@@ -25,25 +25,25 @@ def audited(pinch: Pinch, case: str, network: str) -> tuple[Followed, Verdict]:
 @pytest.mark.parametrize('name', NETWORKS)
 def test_an_accepted_network_keeps_its_approaches_and_targets(name: str, pinch: Pinch) -> None:
     case, network = example(f'{name}.csv'), example(f'{name}-network.txt')
-    held, verdict = followed(case, network), pinch.audit(case, network)
+    followed_network, verdict = followed(case, network), pinch.audit(case, network)
     assert isinstance(verdict, Accepted)
-    for each in held.passages:
-        assert each.least_difference is not None and each.least_difference >= each.approach
-    for stream in held.case.streams:
-        assert [end.branch.temperature for end in held.ends[stream.name]] == [stream.target]
-        assert [end.branch.size for end in held.ends[stream.name]] == [stream.size]
+    for passage in followed_network.passages:
+        assert passage.least_difference is not None and passage.least_difference >= passage.approach
+    for stream in followed_network.case.streams:
+        assert [end.branch.temperature for end in followed_network.ends[stream.name]] == [stream.target]
+        assert [end.branch.size for end in followed_network.ends[stream.name]] == [stream.size]
 
 
 @pytest.mark.parametrize('name', NETWORKS)
 def test_penalties_of_exchangers_are_what_they_carry_across_the_reference_place(name: str, pinch: Pinch) -> None:
     case, network = example(f'{name}.csv'), example(f'{name}-network.txt')
-    held, verdict = followed(case, network), pinch.audit(case, network)
+    followed_network, verdict = followed(case, network), pinch.audit(case, network)
     assert isinstance(verdict, Accepted)
     for point in pinches_of(pinch.targets(case), pinch.curves(case))[:1]:
         if point.temperature != verdict.place:
             continue
-        for each in held.passages:
-            assert each.crossing(point) == verdict.penalty(Place(PlaceKind.EXCHANGER, each.exchanger.name))
+        for passage in followed_network.passages:
+            assert passage.crossing(point) == verdict.penalty(Place(PlaceKind.EXCHANGER, passage.exchanger.name))
 
 
 @pytest.mark.parametrize('name', CASES)
@@ -52,19 +52,19 @@ def test_a_designed_network_is_followed_and_crosses_no_pinch(name: str, pinch: P
     made = pinch.design(case)
     if isinstance(made, Cut):
         return
-    held = followed(case, made.text)
+    followed_network = followed(case, made.text)
     for point in pinches_of(pinch.targets(case), pinch.curves(case)):
-        crossing = sum((each.crossing(point) or Fraction(0) for each in held.passages), Fraction(0))
+        crossing = sum((passage.crossing(point) or Fraction(0) for passage in followed_network.passages), Fraction(0))
         assert crossing == made.excess
-        assert made.excess or PinchSide.ACROSS not in {each.side_of(point) for each in held.passages}
+        assert made.excess or PinchSide.ACROSS not in {passage.side_of(point) for passage in followed_network.passages}
 
 
 def test_the_temperatures_of_a_rejected_network_are_what_the_audit_found(pinch: Pinch) -> None:
     network = ('exchanger E1 H C 1500\nexchanger Q1 H COLD 3500\nexchanger Q2 HOT C 2500\n'
                'pass H Q1 a\npass a E1 b\nend b\npass C Q2 d\npass d E1 e\nend e\n')
-    held, verdict = audited(pinch, SMALL, network)
+    followed_network, verdict = audited(pinch, SMALL, network)
     assert isinstance(verdict, Rejected) and verdict.reason == 'HotEndApproach'
-    passage = held.passage('E1')
+    passage = followed_network.passage('E1')
     assert passage.hot.inlet == verdict.found == 650
     assert passage.cold.outlet is not None and passage.cold.outlet + passage.approach == verdict.wanted == 800
 
@@ -79,27 +79,28 @@ FOLLOWED = [
 @pytest.mark.parametrize('case, network, reason, found', FOLLOWED)
 def test_the_end_of_a_stream_is_what_the_audit_found(case: str, network: str, reason: str, found: Fraction,
                                                      pinch: Pinch) -> None:
-    held, verdict = audited(pinch, case, network)
+    followed_network, verdict = audited(pinch, case, network)
     assert isinstance(verdict, Rejected) and (verdict.reason, verdict.found) == (reason, found)
-    stream = next(name for name, ends in held.ends.items() if ends)
-    branch = held.ends[stream][0].branch
+    stream = next(name for name, ends in followed_network.ends.items() if ends)
+    branch = followed_network.ends[stream][0].branch
     assert found == (branch.state if reason == 'MissedTarget' else branch.size)
 
 
 def test_behind_a_branch_that_is_overdrawn_nothing_is_followed(pinch: Pinch) -> None:
     network = ('exchanger Q1 H COLD 5000\nexchanger Q2 HOT C 4000\nsplit H a 10 b\npass b Q1 c\nmix a c d\nend d\n'
                'pass C Q2 e\nend e\n')
-    held, verdict = audited(pinch, SMALL, network)
+    followed_network, verdict = audited(pinch, SMALL, network)
     assert isinstance(verdict, Rejected) and verdict.reason == 'Overdrawn'
-    assert held.branches['b'].size == 0 and held.branches['c'].state is None and held.branches['d'].state is None
-    passage = held.passage('Q1')
+    assert (followed_network.branches['b'].size == 0 and followed_network.branches['c'].state is None
+            and followed_network.branches['d'].state is None)
+    passage = followed_network.passage('Q1')
     assert passage.hot.outlet is None and passage.least_difference is None
-    assert held.passage('Q2').least_difference is not None
+    assert followed_network.passage('Q2').least_difference is not None
 
 
 def test_three_branches_have_their_own_shares() -> None:
-    held = followed(SMALL, 'split H a 2 rest\nsplit rest b 3 c\nmix a b d\nmix d c e\nend e\n')
-    assert [held.branches[each].size for each in 'abcde'] == [2, 3, 5, 5, 10]
+    followed_network = followed(SMALL, 'split H a 2 rest\nsplit rest b 3 c\nmix a b d\nmix d c e\nend e\n')
+    assert [followed_network.branches[name].size for name in 'abcde'] == [2, 3, 5, 5, 10]
 
 
 def test_a_latent_stream_at_the_pinch_lies_on_its_side(pinch: Pinch) -> None:
@@ -111,5 +112,5 @@ def test_a_latent_stream_at_the_pinch_lies_on_its_side(pinch: Pinch) -> None:
     assert (point.temperature, point.takes_level) == (950, False)
     design = pinch.design(vapour)
     assert not isinstance(design, Cut)
-    for each in followed(vapour, design.text).passages:
-        assert each.side_of(point) is not PinchSide.ACROSS
+    for passage in followed(vapour, design.text).passages:
+        assert passage.side_of(point) is not PinchSide.ACROSS

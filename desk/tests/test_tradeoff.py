@@ -62,10 +62,10 @@ def cost_of(pinch: Pinch, case: Case, network: Network) -> Fraction:
 @pytest.mark.parametrize('name', NETWORKS)
 def test_a_structure_with_its_duties_is_the_network(name: str, pinch: Pinch) -> None:
     case, network = those(name)
-    for held in (network, read_network(pinch.design(case).text)):
-        structure = structure_of(case, held)
-        made = network_of(case, structure, duties_of(held))
-        assert cost_of(pinch, case, made) == cost_of(pinch, case, held)
+    for original in (network, read_network(pinch.design(case).text)):
+        structure = structure_of(case, original)
+        made = network_of(case, structure, duties_of(original))
+        assert cost_of(pinch, case, made) == cost_of(pinch, case, original)
         assert structure_of(case, read_network(print_network(made))) == structure
 
 
@@ -108,7 +108,7 @@ def test_an_exchanger_less_costs_what_the_books_say(pinch: Pinch) -> None:
     case, network = those('tc3')
     structure = with_ends(case, structure_of(case, network))
     found = [cheapest_of(case, structure, most, 10) for most in (7, 6, 5)]
-    assert [each.cost for each in found if each] == [107500, 111500, 172500]
+    assert [costed.cost for costed in found if costed] == [107500, 111500, 172500]
 
 
 def test_shares_that_need_not_mix_at_one_temperature(pinch: Pinch) -> None:
@@ -162,7 +162,7 @@ def test_a_split_is_taken_out_in_both_orders(pinch: Pinch) -> None:
     case, network = those('two-reactors-steam')
     structure = structure_of(case, network)
     made = list(structures(structure, unsplit))
-    assert len(made) == 8 and {splits(each) for each in made} == {1}
+    assert len(made) == 8 and {splits(simpler_structure) for simpler_structure in made} == {1}
     assert list(later(case, structure)) == []
 
 
@@ -178,7 +178,7 @@ def test_shifts_are_all_that_changed_and_move_nothing_to_and_fro(
     change = {name: Fraction(0) for name in PAIRS}
     for hots, colds, length, path, heat in ways:
         # A way from S over cold and hot streams to w; without S and w it is closed to a loop.
-        nodes = [each for pair in zip(colds, hots) for each in pair][:2 * length]
+        nodes = [node for pair in zip(colds, hots) for node in pair][:2 * length]
         chain = ['S', *nodes, 'w'] if path else [*nodes, nodes[0]]
         for at, (one, other) in enumerate(zip(chain, chain[1:])):
             change['E' + (one + other if one in 'SABC' else other + one)] += heat if at % 2 == 0 else -heat
@@ -215,8 +215,8 @@ def test_tc3_is_as_good_as_by_hand_or_better(traded: TradeOff, pinch: Pinch) -> 
 
 def test_the_first_exchanger_that_goes_is_paid_by_steam_and_cooling(traded: TradeOff) -> None:
     row = traded.rows[1]
-    assert [each.name for each in row.gone] == ['E4'] and row.come == ()
-    assert [f'{each.heat} {each.told}' for each in row.shifts] == [
+    assert [exchanger.name for exchanger in row.gone] == ['E4'] and row.come == ()
+    assert [f'{shift.heat} {shift.told}' for shift in row.shifts] == [
         '4000 HOT (+H3) S3 (-E4) S1 (+C1) COLD', '16000 S3 (-E4) S1 (+E1) S3']
 
 
@@ -299,7 +299,7 @@ def test_the_word_gives_a_table_and_the_networks(desk: Captured, tmp_path: Path,
     assert [row[:4] for row in rows[:3]] == [['floor', '107500', '0', ''], ['7', '107500', '0', '0'],
                                              ['6', '111500', '4000', '4']]
     assert '6,4,path,HOT (+H3) S3 (-E4) S1 (+C1) COLD' in done.out
-    files = {each.name: each.read_bytes() for each in folder.iterdir()}
+    files = {path.name: path.read_bytes() for path in folder.iterdir()}
     assert {'tc3-7.txt', 'tc3-6.txt', 'tc3-5.txt'} <= set(files)
     assert files['tc3-6.txt'].startswith(b'# 6 exchangers, 1 splits\n# cost 111500 price times W, floor 107500 price')
     verdict = pinch.audit(example('tc3.csv'), files['tc3-6.txt'])
