@@ -25,17 +25,17 @@ class Match(NamedTuple):
 def covered(streams: list[Source], begin: int) -> list[tuple[int, int]]:
     """What each stream of a side covers on the axis, where the curve of the side begins at this heat."""
     def heat_below(place: int) -> int:
-        return begin + sum(each.cp * max(0, min(place, each.span()[1]) - each.span()[0]) for each in streams)
+        return begin + sum(stream.cp * max(0, min(place, stream.span()[1]) - stream.span()[0]) for stream in streams)
 
-    return [(heat_below(each.span()[0]), heat_below(each.span()[1])) for each in streams]
+    return [(heat_below(stream.span()[0]), heat_below(stream.span()[1])) for stream in streams]
 
 
 def running(side: list[tuple[Source, tuple[int, int]]], low: int, high: int) -> list[tuple[Source, Fraction]]:
     """The sources of a side that run between two cuts, each with its part of the heat by its CP; a utility stands
     alone."""
-    there = [each for each, (begin, end) in side if begin <= low and high <= end]
-    whole = sum(each.cp or 1 for each in there)
-    return [(each, Fraction((high - low) * (each.cp or 1), whole)) for each in there]
+    there = [source for source, (begin, end) in side if begin <= low and high <= end]
+    whole = sum(source.cp or 1 for source in there)
+    return [(source, Fraction((high - low) * (source.cp or 1), whole)) for source in there]
 
 
 def matched(hot: list[tuple[Source, Fraction]], cold: list[tuple[Source, Fraction]]) -> list[Match]:
@@ -44,7 +44,7 @@ def matched(hot: list[tuple[Source, Fraction]], cold: list[tuple[Source, Fractio
     hot_left, cold_left = [heat for _, heat in hot], [heat for _, heat in cold]
     while one < len(hot) and other < len(cold):
         heat = min(hot_left[one], cold_left[other])
-        sizes = [each.cp * heat / whole for each, whole in (hot[one], cold[other])]
+        sizes = [source.cp * heat / whole for source, whole in (hot[one], cold[other])]
         found.append(Match(hot[one][0], cold[other][0], heat, *sizes))
         hot_left[one] -= heat
         cold_left[other] -= heat
@@ -56,8 +56,8 @@ def sections_of(case: Case) -> list[list[Match]]:
     """The matches between two cuts, from the greatest heat down, of a completed standard case without latent
     streams."""
     target, rest, _, _ = targets_of(case)
-    heater, cooler = [next(each for each in case.utilities if each.hot is hot) for hot in (True, False)]
-    hot, cold = [[each for each in case.streams if each.hot is side] for side in (True, False)]
+    heater, cooler = [next(utility for utility in case.utilities if utility.hot is hot) for hot in (True, False)]
+    hot, cold = [[stream for stream in case.streams if stream.hot is side] for side in (True, False)]
     hot_side, cold_side = list(zip(hot, covered(hot, 0))), list(zip(cold, covered(cold, rest)))
     above = max([0] + [end for _, (_, end) in hot_side])
     hot_side.append((heater, (above, above + target)))
@@ -91,13 +91,13 @@ class Chain:
     def piece(self, branch: str, passes: list[tuple[str, Fraction]]) -> str:
         """Leads a branch through the exchangers of a section, beside each other where there are more than one."""
         behind = []
-        for each, (exchanger, _) in zip(self.divided(branch, [size for _, size in passes]), passes):
+        for inlet, (exchanger, _) in zip(self.divided(branch, [size for _, size in passes]), passes):
             behind.append(self.new())
-            self.lines.append('pass %s %s %s' % (each, exchanger, behind[-1]))
+            self.lines.append('pass %s %s %s' % (inlet, exchanger, behind[-1]))
         joined = behind[0]
-        for each in behind[1:]:
+        for outlet in behind[1:]:
             mixed = self.new()
-            self.lines.append('mix %s %s %s' % (joined, each, mixed))
+            self.lines.append('mix %s %s %s' % (joined, outlet, mixed))
             joined = mixed
         return joined
 
@@ -114,14 +114,14 @@ def vertical_text(case: Case) -> str:
     names: dict[tuple[int, int], str] = {}
     sections, lines = sections_of(case), ['# hot %d cold %d excess 0 cost %d' % (hot, cold, hot)]
     for at, section in enumerate(sections):
-        for number, each in enumerate(section):
+        for number, match in enumerate(section):
             names[at, number] = 'E%d' % (len(names) + 1)
-            pair = each.hot.name.decode(), each.cold.name.decode()
-            lines.append('exchanger %s %s %s %s' % (names[at, number], *pair, each.heat))
+            pair = match.hot.name.decode(), match.cold.name.decode()
+            lines.append('exchanger %s %s %s %s' % (names[at, number], *pair, match.heat))
     chain = Chain()
     for stream in case.streams:
-        pieces = [[(names[at, number], each.hot_size if stream.hot else each.cold_size)
-                   for number, each in enumerate(section) if stream in (each.hot, each.cold)]
+        pieces = [[(names[at, number], match.hot_size if stream.hot else match.cold_size)
+                   for number, match in enumerate(section) if stream in (match.hot, match.cold)]
                   for at, section in enumerate(sections)]
         there = [piece for piece in pieces if piece]
         chain.stream(stream.name.decode(), there if stream.hot else there[::-1])
@@ -133,7 +133,8 @@ def design_text(case: Case, written: str) -> str:
     problem, lines = of_case(case), lines_of(written)
     uses = {line[1]: int(line[2]) for line in lines if line[0] == 'use'}
     moves = [line[1:] for line in lines if line[0] == 'move']
-    hot, cold = [sum(uses[each.name.decode()] for each in case.utilities if each.hot is side) for side in (True, False)]
+    hot, cold = [sum(uses[utility.name.decode()] for utility in case.utilities if utility.hot is side)
+                 for side in (True, False)]
     made = ['# hot %d cold %d excess %d cost %s' % (hot, cold, hot - targets_of(case)[0], lines[0][1])]
     made += ['exchanger E%d %s %s %s' % (number, line[0], line[3], line[6]) for number, line in enumerate(moves, 1)]
     chain = Chain()

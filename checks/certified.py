@@ -24,9 +24,9 @@ def told(source: Source) -> tuple[object, ...]:
 
 def given(case: Case) -> list[Source]:
     """The utilities but for those that completion adds by itself. It may add one outside the temperatures of a file."""
-    added = {told(each) for each in Case(case.share, case.streams).completed().utilities}
-    return [each for each in case.utilities if told(each) not in added
-            or sum(other.hot is each.hot for other in case.utilities) > 1]
+    added = {told(utility) for utility in Case(case.share, case.streams).completed().utilities}
+    return [utility for utility in case.utilities if told(utility) not in added
+            or sum(other.hot is utility.hot for other in case.utilities) > 1]
 
 
 def rows_of(case: Case) -> bytes:

@@ -124,10 +124,10 @@ class Net:
 def net_of(problem: Problem) -> Net:
     hot, cold = problem.hot, problem.cold
     net, outside = Net(len(hot) + len(cold) + 1), len(hot) + len(cold)
-    for at, each in enumerate(hot):
-        net.join(outside, at, each.least, each.most, each.price)
-    for at, each in enumerate(cold):
-        net.join(len(hot) + at, outside, each.least, each.most, each.price)
+    for at, part in enumerate(hot):
+        net.join(outside, at, part.least, part.most, part.price)
+    for at, part in enumerate(cold):
+        net.join(len(hot) + at, outside, part.least, part.most, part.price)
     for at, one in enumerate(hot):
         for to, other in enumerate(cold):
             if problem.reaches(one, other):
@@ -147,12 +147,12 @@ def least_boiler(site: Case) -> int | None:
     steps, share = len(places) - 1, site.contribution()
     mains, outside = plants * steps, plants * steps + len(site.mains)
     net = Net(outside + 1)
-    for each in site.streams:
-        low, high = each.span()
+    for stream in site.streams:
+        low, high = stream.span()
         for at, (top, bottom) in enumerate(zip(places, places[1:])):
             if low <= bottom and top <= high:
-                heat = each.cp * (top - bottom) * (1 if each.hot else -1)
-                net.spare[(each.plant or 0) * steps + at] += heat
+                heat = stream.cp * (top - bottom) * (1 if stream.hot else -1)
+                net.spare[(stream.plant or 0) * steps + at] += heat
                 net.spare[outside] -= heat
     boiler = max(level for _, level in site.mains) - share
     for plant in range(plants):

@@ -104,5 +104,5 @@ def random_priced_case(draw: random.Random) -> bytes:
 def rest_of(rows: list[str]) -> int:
     """How much more heat the hot streams of these rows have than the cold ones want."""
     fields = [row.split(',') for row in rows if row.startswith(('hot,', 'cold,'))]
-    heats = [abs(int(each[2]) - int(each[3])) * int(each[4]) + int(each[5] or 0) for each in fields]
-    return sum(heat if each[0] == 'hot' else -heat for each, heat in zip(fields, heats))
+    heats = [abs(int(cells[2]) - int(cells[3])) * int(cells[4]) + int(cells[5] or 0) for cells in fields]
+    return sum(heat if cells[0] == 'hot' else -heat for cells, heat in zip(fields, heats))

@@ -40,7 +40,7 @@ class Checks:
                     return Ended(None, None, repr(fault))
                 output.seek(0)
                 error.seek(0)
-                printed, complaints = [each.read().decode('latin-1') for each in (output, error)]
+                printed, complaints = [file.read().decode('latin-1') for file in (output, error)]
         end = END.search(printed.rstrip('\n'))
         is_whole = end and not complaints and int(end.group(1)) > 0 and (status == 0) == (end.group(2) == '0')
         if not end or not is_whole or late:
@@ -71,8 +71,8 @@ class Checks:
 
     def stop_by_signals(self) -> None:
         """A signal that asks this process to end stops all."""
-        for each in (signal.SIGTERM, signal.SIGINT, signal.SIGHUP):
-            signal.signal(each, lambda *_: self.stop())
+        for signal_number in (signal.SIGTERM, signal.SIGINT, signal.SIGHUP):
+            signal.signal(signal_number, lambda *_: self.stop())
 
 
 def kill(group: int) -> None:

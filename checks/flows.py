@@ -54,10 +54,10 @@ class Body:
         given, taken = self.heats()
         if not all(part.least <= heat <= part.most for part, heat in zip(hot + cold, given + taken)):
             return 'a balance'
-        if uses != [sum(heat for part, heat in zip(hot + cold, given + taken) if part.source is each)
-                    for each in self.problem.utilities]:
+        if uses != [sum(heat for part, heat in zip(hot + cold, given + taken) if part.source is utility)
+                    for utility in self.problem.utilities]:
             return 'the use of a utility'
-        if cost != sum(each.price * use for each, use in zip(self.problem.utilities, uses)):
+        if cost != sum(utility.price * use for utility, use in zip(self.problem.utilities, uses)):
             return 'the cost'
         if any(take > give and reaches(one, other) for one, give in zip(hot, self.gives)
                for other, take in zip(cold, self.takes)):
@@ -105,7 +105,7 @@ def flow_fault(case: Case, status: object, written: str) -> str | None:
     if status == 1:
         return cut_fault(problem, lines)
     end = 1 + len(problem.utilities)
-    names = [['use', each.name.decode()] for each in problem.utilities]
+    names = [['use', utility.name.decode()] for utility in problem.utilities]
     if status != 0 or lines[0][0] != 'cost' or [line[:2] for line in lines[1:end]] != names:
         return 'the status or the head'
     uses = [number(line[2:]) for line in lines[1:end]]

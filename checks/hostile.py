@@ -67,8 +67,8 @@ def rows_of(front: bytes) -> Iterator[tuple[int, Row]]:
         state = folded(state ^ pattern(byte), folded_power(2))
     states = [state]
     for _ in range(OPEN - 1):
-        states = [folded(each ^ pattern(byte), folded_power(2)) for each in states for byte in LETTERS]
-    row = Row(int.from_bytes(b''.join(struct.pack('<QQ', each, 0) for each in states), 'little'), len(states))
+        states = [folded(previous ^ pattern(byte), folded_power(2)) for previous in states for byte in LETTERS]
+    row = Row(int.from_bytes(b''.join(struct.pack('<QQ', hashed, 0) for hashed in states), 'little'), len(states))
     wide = b''.join(row.mixed(byte).bytes() for byte in LETTERS)
     row = Row(int.from_bytes(wide, 'little'), len(wide) // 16)
     for byte in LETTERS:

@@ -82,25 +82,25 @@ def cell(row: int, column: str, text: str, place: bool = True) -> str:
 
 def sheet(rows: list[list[str]], more: str = '', behind: str = '', head: str = '', place: bool = True) -> str:
     """A sheet with rows, further elements among them and behind them, and what stands before it."""
-    held = ''.join('<row%s>%s</row>' % (' r="%d"' % at if place else '', ''.join(
+    row_elements = ''.join('<row%s>%s</row>' % (' r="%d"' % at if place else '', ''.join(
         cell(at, 'ABCDEFGHIJ'[column], text, place) for column, text in enumerate(row)))
         for at, row in enumerate(rows, 1))
-    return (head + '<worksheet xmlns="http://schemas.openxmlformats.org/spreadsheetml/2006/main"><sheetData>' + held
-            + more + '</sheetData>' + behind + '</worksheet>')
+    return (head + '<worksheet xmlns="http://schemas.openxmlformats.org/spreadsheetml/2006/main"><sheetData>'
+            + row_elements + more + '</sheetData>' + behind + '</worksheet>')
 
 
 def packed(content: str | bytes, **parts: str | bytes) -> bytes:
     """A workbook with this sheet; further parts stand in place of its own."""
     target = io.BytesIO()
     with zipfile.ZipFile(target, 'w', zipfile.ZIP_DEFLATED) as archive:
-        for name, part in {**WORKBOOK, SHEET: content, **{key.replace('__', '/'): held for key, held in
+        for name, part in {**WORKBOOK, SHEET: content, **{key.replace('__', '/'): substitute for key, substitute in
                                                           parts.items()}}.items():
             archive.writestr(name, part)
     return target.getvalue()
 
 
 def merged(*ranges: str) -> str:
-    return '<mergeCells>' + ''.join('<mergeCell ref="%s"/>' % each for each in ranges) + '</mergeCells>'
+    return '<mergeCells>' + ''.join('<mergeCell ref="%s"/>' % cells for cells in ranges) + '</mergeCells>'
 
 
 def sheets(rows: list[list[str]]) -> Iterator[tuple[str, str]]:

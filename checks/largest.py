@@ -47,7 +47,7 @@ def stream_rows(draw: random.Random, upper: list[int], lower: list[int], outside
     ends = list(zip(sides, upper, lower[::-1]))
     rows = []
     for hot, kind in ((True, 'hot'), (False, 'cold')):
-        highs, lows = [[each[at] for each in ends if each[0] is hot] for at in (1, 2)]
+        highs, lows = [[extent[at] for extent in ends if extent[0] is hot] for at in (1, 2)]
         draw.shuffle(lows)
         for number, (high, low) in enumerate(zip(highs, lows), 1):
             share = draw.randrange(SHARE[1] + 1)

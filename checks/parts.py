@@ -42,15 +42,15 @@ def parts_of(places: list[int], sources: list[Source], hot: bool) -> list[Part]:
     """The parts of one side over a grid of places that fall: by falling high, by falling low, then in the order of the
     sources."""
     found = []
-    for at, each in enumerate(sources):
-        low, high = each.span()
-        if each.hot is not hot:
+    for at, source in enumerate(sources):
+        low, high = source.span()
+        if source.hot is not hot:
             continue
         spans = [pair for pair in zip(places, places[1:]) if low <= pair[1] and pair[0] <= high]
         for top, bottom in spans if low < high else [(high, low)]:
-            heat = each.load + each.cp * (top - bottom)
-            least, most = (heat, heat) if each.stream else (each.least, each.most)
-            part = Part(each, top, bottom, least, most, 0 if each.stream else each.price)
+            heat = source.load + source.cp * (top - bottom)
+            least, most = (heat, heat) if source.stream else (source.least, source.most)
+            part = Part(source, top, bottom, least, most, 0 if source.stream else source.price)
             found.append((-top, -bottom, at, part))
     return [part for _, _, _, part in sorted(found, key=lambda one: one[:3])]
 
@@ -58,7 +58,7 @@ def parts_of(places: list[int], sources: list[Source], hot: bool) -> list[Part]:
 def of_case(case: Case) -> Problem:
     """The parts of a completed case."""
     sources, forbidden = case.streams + case.utilities, set(case.forbidden)
-    places = sorted({end for each in sources for end in each.span()}, reverse=True)
+    places = sorted({end for source in sources for end in source.span()}, reverse=True)
 
     def reaches(one: Part, other: Part) -> bool:
         return one.reaches(other) and (one.source.name, other.source.name) not in forbidden

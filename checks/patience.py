@@ -26,7 +26,7 @@ def fields_of(path: str) -> list[str]:
 
 def threads_of(process: int) -> list[str]:
     try:
-        return ['/proc/%d/task/%s' % (process, each) for each in os.listdir('/proc/%d/task' % process)]
+        return ['/proc/%d/task/%s' % (process, thread) for thread in os.listdir('/proc/%d/task' % process)]
     except OSError:
         return []
 
@@ -53,9 +53,9 @@ class Patience:
     def over(self) -> str:
         """Why a process takes too long, or nothing."""
         used, wants = 0, False
-        for each in tree_of(self.process):
-            used += sum(map(int, fields_of('/proc/%d/stat' % each)[TIMES]))
-            wants |= any(fields_of(thread + '/stat')[STATE:STATE + 1] in (['R'], ['D']) for thread in threads_of(each))
+        for pid in tree_of(self.process):
+            used += sum(map(int, fields_of('/proc/%d/stat' % pid)[TIMES]))
+            wants |= any(fields_of(thread + '/stat')[STATE:STATE + 1] in (['R'], ['D']) for thread in threads_of(pid))
         if wants or used / TICKS != self.used:
             self.used, self.moved = used / TICKS, time.monotonic()
         if self.used > self.most:
@@ -65,9 +65,9 @@ class Patience:
 
 def end(process: subprocess.Popen[bytes]) -> None:
     """Ends a process and all that come from it."""
-    for each in list(tree_of(process.pid)):
+    for pid in list(tree_of(process.pid)):
         try:
-            os.kill(each, signal.SIGKILL)
+            os.kill(pid, signal.SIGKILL)
         except ProcessLookupError:
             pass
 

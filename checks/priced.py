@@ -19,8 +19,8 @@ class Costs:
     def __init__(self, case: Case, search: Callable[[Case], int | None]) -> None:
         self.case, self.search = case, search
         self.kept: dict[tuple[int, ...], int | None] = {}
-        self.prices = tuple(each.price for each in case.utilities)
-        self.names = [each.name for each in case.utilities]
+        self.prices = tuple(utility.price for utility in case.utilities)
+        self.names = [utility.name for utility in case.utilities]
 
     def cost(self, prices: tuple[int, ...]) -> int | None:
         if prices not in self.kept:
@@ -30,8 +30,8 @@ class Costs:
         return self.kept[prices]
 
     def set(self, prices: tuple[int, ...]) -> None:
-        for each, price in zip(self.case.utilities, prices):
-            each.price = price
+        for utility, price in zip(self.case.utilities, prices):
+            utility.price = price
 
     def along(self, utility: bytes) -> Callable[[int], int]:
         """The least cost over the price of one utility, where there is a heat flow."""

@@ -12,8 +12,8 @@ def swept_text(rows: bytes, shares: Iterable[int], search: Callable[[Case], int 
     for share in shares:
         case = case_of(rows)
         case.share = share
-        for each in case.streams + case.utilities:
-            each.share = share
+        for source in case.streams + case.utilities:
+            source.share = share
         hot, cold, _, _ = targets_of(case)
         cost = search(case.completed())
         lines.append('row %d %d %d %s\n' % (share, hot, cold, 'infeasible' if cost is None else cost))

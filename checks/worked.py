@@ -94,13 +94,13 @@ WHOLE: list[list[str]] = [
 def no_commands() -> Iterator[Worked]:
     """Each command with a word less and a word more, and with numbers that it has not."""
     files = {'plant.csv': TWO_LEVELS, 'network.txt': FOUR_NETWORK, 'report.txt': CUT, 'study.csv': STUDY}
-    words = [each[:-1] for each in WHOLE] + [each + ['1'] for each in WHOLE]
+    words = [command[:-1] for command in WHOLE] + [command + ['1'] for command in WHOLE]
     words += [[], ['Targets', 'plant.csv'], ['sample', '0', '1'], ['sample', '1', '13'],
               ['prices', 'plant.csv', 'study.csv', '0'], ['prices', 'plant.csv', 'study.csv', '17'],
               ['sweep', 'plant.csv', '0', '100', '10', '17'], ['sweep', 'plant.csv', '0', '1000', '1', '4'],
               ['sweep', 'plant.csv', '0', '100', '0', '4'], ['sweep', 'plant.csv', '101', '100', '10', '4']]
-    for each in words:
-        yield Worked(each, files, 2, TABLE.encode())
+    for command in words:
+        yield Worked(command, files, 2, TABLE.encode())
 
 
 # What each file behind the first one is called in an answer.

@@ -68,7 +68,7 @@ def package(root: Path, commit: Commit, version: str, members: list[Member]) -> 
                  committed(root, commit, 'release/debian'))]
     with tempfile.TemporaryDirectory(prefix='pinch-deb-') as folder:
         tree, made = Path(folder) / 'tree', Path(folder) / 'made.deb'
-        for file in [*members, *(each.below('DEBIAN') for each in control)]:
+        for file in [*members, *(member.below('DEBIAN') for member in control)]:
             write(tree, file)
         for place in [tree, *tree.rglob('*')]:
             if place.is_dir():

@@ -49,12 +49,12 @@ def release_text(version: str, commit: Commit, gate: str, kit: str, program: Pat
             ('program', f'bin/pinch, SHA-256 {checked.sum_of(program)}'),
             ('wants', f'Linux on x86-64 with the C library (glibc) {checked.library_of(program)} or later'),
             ('licence', ', '.join(sorted(licences)) or 'none is given yet')]
-    text = ''.join(f'{name:<9}{held}\n' for name, held in rows)
+    text = ''.join(f'{name:<9}{value}\n' for name, value in rows)
     heads = {State.WRONG: 'NO RELEASE, FOR A TRIAL ALONE, since', State.CHECKED: 'Checked when it was packed',
              State.OPEN: 'Not checked'}
     for state, head in heads.items():
-        held_by = [each.text for each in findings if each.state is state]
-        text += f'\n{head}:\n' + ''.join(f'- {each}\n' for each in held_by) if held_by else ''
+        held_by = [finding.text for finding in findings if finding.state is state]
+        text += f'\n{head}:\n' + ''.join(f'- {sentence}\n' for sentence in held_by) if held_by else ''
     return text
 
 

@@ -53,9 +53,10 @@ def write(folder: Path, member: Member) -> None:
 
 def files_of(wheel: bytes) -> list[Member]:
     """The files of a wheel, without the list of them."""
-    with zipfile.ZipFile(io.BytesIO(wheel)) as held:
-        names = [name for name in held.namelist() if not name.endswith('/') and not name.endswith('.dist-info/RECORD')]
-        return [Member(name, held.read(name)) for name in names]
+    with zipfile.ZipFile(io.BytesIO(wheel)) as archive:
+        names = [name for name in archive.namelist()
+                 if not name.endswith('/') and not name.endswith('.dist-info/RECORD')]
+        return [Member(name, archive.read(name)) for name in names]
 
 
 def name_of(version: str, is_trial: bool) -> str:

@@ -64,65 +64,65 @@ class Audit:
 
     def __init__(self, case: Case, statements: list[Statement]) -> None:
         self.case, self.statements = case, statements
-        self.exchangers = [each for each in statements if isinstance(each, Exchanger)]
+        self.exchangers = [statement for statement in statements if isinstance(statement, Exchanger)]
         self.ended: set[Source] = set()
 
     def pass_through(self) -> None:
         """The sizes and the states of all branches, statement by statement; each stream has to end."""
-        for each in self.statements:
-            steps = Steps('line %d' % each.line)
-            if isinstance(each, Split):
-                self.split(steps, each)
-            elif isinstance(each, Pass):
-                self.passed(steps, each)
-            elif isinstance(each, Mix):
-                self.mixed(steps, each)
-            elif isinstance(each, End):
-                self.end(steps, each)
+        for statement in self.statements:
+            steps = Steps('line %d' % statement.line)
+            if isinstance(statement, Split):
+                self.split(steps, statement)
+            elif isinstance(statement, Pass):
+                self.passed(steps, statement)
+            elif isinstance(statement, Mix):
+                self.mixed(steps, statement)
+            elif isinstance(statement, End):
+                self.end(steps, statement)
         for stream in self.case.streams:
             if stream not in self.ended:
                 raise Rejected('stream %s' % stream.name.decode(), 'Unfinished', 0, stream.size())
 
-    def split(self, steps: Steps, each: Split) -> None:
-        if each.size >= each.source.size:
-            raise Rejected(steps.place, 'Overdrawn', each.size, each.source.size)
-        each.first.size, each.second.size = each.size, steps.formed(each.source.size - each.size)
-        each.first.state = each.second.state = each.source.state
+    def split(self, steps: Steps, split: Split) -> None:
+        if split.size >= split.source.size:
+            raise Rejected(steps.place, 'Overdrawn', split.size, split.source.size)
+        split.first.size, split.second.size = split.size, steps.formed(split.source.size - split.size)
+        split.first.state = split.second.state = split.source.state
 
-    def passed(self, steps: Steps, each: Pass) -> None:
-        stream, state = each.source.stream, each.source.state
-        change = steps.formed(each.exchanger.duty / each.source.size)
-        each.to.size = each.source.size
-        each.to.state = steps.formed(state - change if stream.hot else state + change)
-        for wrong, wanted in ((each.to.state < 0, 0), (each.to.state > 1, 1)):
+    def passed(self, steps: Steps, passage: Pass) -> None:
+        stream, state = passage.source.stream, passage.source.state
+        change = steps.formed(passage.exchanger.duty / passage.source.size)
+        passage.to.size = passage.source.size
+        passage.to.state = steps.formed(state - change if stream.hot else state + change)
+        for wrong, wanted in ((passage.to.state < 0, 0), (passage.to.state > 1, 1)):
             if stream.load and wrong:
-                raise Rejected(steps.place, 'Overdrawn', each.to.state, wanted)
+                raise Rejected(steps.place, 'Overdrawn', passage.to.state, wanted)
 
-    def mixed(self, steps: Steps, each: Mix) -> None:
-        each.to.size = steps.formed(each.first.size + each.second.size)
-        if each.first.state == each.second.state:
-            each.to.state = each.first.state
+    def mixed(self, steps: Steps, mix: Mix) -> None:
+        mix.to.size = steps.formed(mix.first.size + mix.second.size)
+        if mix.first.state == mix.second.state:
+            mix.to.state = mix.first.state
         else:
-            first = steps.formed(each.first.size * each.first.state)
-            second = steps.formed(each.second.size * each.second.state)
+            first = steps.formed(mix.first.size * mix.first.state)
+            second = steps.formed(mix.second.size * mix.second.state)
             both = steps.formed(first + second)
-            each.to.state = steps.formed(both / each.to.size)
+            mix.to.state = steps.formed(both / mix.to.size)
 
-    def end(self, steps: Steps, each: End) -> None:
-        stream = each.source.stream
-        if each.source.size != stream.size():
-            raise Rejected(steps.place, 'Unfinished', each.source.size, stream.size())
-        if each.source.state != stream.states()[1]:
-            raise Rejected(steps.place, 'MissedTarget', each.source.state, stream.states()[1])
+    def end(self, steps: Steps, end: End) -> None:
+        stream = end.source.stream
+        if end.source.size != stream.size():
+            raise Rejected(steps.place, 'Unfinished', end.source.size, stream.size())
+        if end.source.state != stream.states()[1]:
+            raise Rejected(steps.place, 'MissedTarget', end.source.state, stream.states()[1])
         self.ended.add(stream)
 
     def approaches(self) -> None:
         """No exchanger is forbidden, and each keeps its approach at both ends."""
-        for each in self.exchangers:
-            if (each.hot.name, each.cold.name) in self.case.forbidden:
-                raise Rejected(place_of(each), 'Forbidden')
-            steps, shares = Steps(place_of(each)), each.hot.contribution() + each.cold.contribution()
-            (hot_in, hot_out), (cold_in, cold_out) = heats_of(each, True), heats_of(each, False)
+        for exchanger in self.exchangers:
+            if (exchanger.hot.name, exchanger.cold.name) in self.case.forbidden:
+                raise Rejected(place_of(exchanger), 'Forbidden')
+            steps, shares = Steps(place_of(exchanger)), exchanger.hot.contribution() + exchanger.cold.contribution()
+            (hot_in, hot_out), (cold_in, cold_out) = heats_of(exchanger, True), heats_of(exchanger, False)
             for reason, hot, cold in (('HotEndApproach', hot_in, cold_out), ('ColdEndApproach', hot_out, cold_in)):
                 wanted = steps.formed(cold + shares)
                 if hot < wanted:
@@ -133,9 +133,9 @@ class Audit:
         sums = []
         for utility in self.case.utilities:
             steps, total = Steps('utility %s' % utility.name.decode()), Fraction(0)
-            for each in self.exchangers:
-                if utility in (each.hot, each.cold):
-                    total = steps.formed(total + each.duty)
+            for exchanger in self.exchangers:
+                if utility in (exchanger.hot, exchanger.cold):
+                    total = steps.formed(total + exchanger.duty)
             for wrong, wanted in ((total < utility.least, utility.least), (total > utility.most, utility.most)):
                 if wrong:
                     raise Rejected(steps.place, 'UtilityRange', total, wanted)
@@ -184,30 +184,30 @@ class Penalties:
         distance = steps.formed(branch.state - (self.place + share if stream.hot else self.place - share), first)
         return steps.formed(branch.size * distance, first + 1) if distance > 0 else Fraction(0)
 
-    def of_exchanger(self, each: Exchanger) -> str:
-        steps = Steps(place_of(each))
-        released, absorbed = each.duty, Fraction(0)
-        if each.hot.stream:
-            before, behind = each.passed[True]
+    def of_exchanger(self, exchanger: Exchanger) -> str:
+        steps = Steps(place_of(exchanger))
+        released, absorbed = exchanger.duty, Fraction(0)
+        if exchanger.hot.stream:
+            before, behind = exchanger.passed[True]
             above = self.height(steps, before, 1)
             released = steps.formed(above - self.height(steps, behind, 3), 5)
-        if each.cold.stream:
-            before, behind = each.passed[False]
+        if exchanger.cold.stream:
+            before, behind = exchanger.passed[False]
             above = self.height(steps, behind, 6)
             absorbed = steps.formed(above - self.height(steps, before, 8), 10)
         return 'penalty %s %s\n' % (steps.place, steps.formed(released - absorbed, 11))
 
-    def of_mix(self, each: Mix) -> str:
-        steps = Steps('line %d' % each.line)
-        first = self.height(steps, each.first, 1)
-        second = self.height(steps, each.second, 3)
-        result = self.height(steps, each.to, 5)
+    def of_mix(self, mix: Mix) -> str:
+        steps = Steps('line %d' % mix.line)
+        first = self.height(steps, mix.first, 1)
+        second = self.height(steps, mix.second, 3)
+        result = self.height(steps, mix.to, 5)
         both = steps.formed(first + second, 7)
-        return 'penalty mix %d %s\n' % (each.line, steps.formed(both - result, 8))
+        return 'penalty mix %d %s\n' % (mix.line, steps.formed(both - result, 8))
 
     def text(self, statements: list[Statement]) -> str:
-        lines = [self.of_exchanger(each) for each in statements if isinstance(each, Exchanger)]
-        return ''.join(lines + [self.of_mix(each) for each in statements if isinstance(each, Mix)])
+        lines = [self.of_exchanger(statement) for statement in statements if isinstance(statement, Exchanger)]
+        return ''.join(lines + [self.of_mix(statement) for statement in statements if isinstance(statement, Mix)])
 
 
 def audit_text(case: Case, statements: list[Statement], least: Search = least_cost) -> tuple[int, str]:

@@ -78,16 +78,16 @@ class Case:
         return self.share
 
     def is_latent(self) -> bool:
-        return any(each.load for each in self.streams)
+        return any(stream.load for stream in self.streams)
 
     def ends(self) -> list[int]:
         """The shifted ends of the streams, from the highest down."""
-        return sorted({end for each in self.streams for end in each.span()}, reverse=True)
+        return sorted({end for stream in self.streams for end in stream.span()}, reverse=True)
 
     def shared_out(self) -> Case:
         """Each source without a contribution of its own has that of the contribution row, wherever this stands."""
-        for each in self.streams + self.utilities:
-            each.share = self.share if each.share is None else each.share
+        for source in self.streams + self.utilities:
+            source.share = self.share if source.share is None else source.share
         return self
 
     def completed(self) -> Case:
@@ -95,28 +95,28 @@ class Case:
         share, ends = self.contribution(), self.ends()
         self.utilities = list(self.utilities)
         for name, hot, level, price in ((b'HOT', True, ends[0] + share, 1), (b'COLD', False, ends[-1] - share, 0)):
-            if not any(each.hot is hot for each in self.utilities):
+            if not any(utility.hot is hot for utility in self.utilities):
                 self.utilities.append(Source(name, hot, False, level, level, most=TRILLION, price=price, share=share))
         return self
 
     def source(self, name: bytes) -> Source | None:
-        return next((each for each in self.streams + self.utilities if each.name == name), None)
+        return next((source for source in self.streams + self.utilities if source.name == name), None)
 
     def count(self, kind: str) -> int:
         """How many of a kind of row are there."""
         if kind in ('hot', 'cold'):
-            return sum(each.hot is (kind == 'hot') for each in self.streams)
+            return sum(stream.hot is (kind == 'hot') for stream in self.streams)
         counts = {'forbid': len(self.forbidden), 'plant': len(self.plants), 'main': len(self.mains)}
         return counts.get(kind, len(self.utilities))
 
 
 def is_standard(case: Case) -> bool:
     """Whether the utilities of the completed case are just the two standard ones, and no match is forbidden."""
-    def told(each: Source) -> tuple[object, ...]:
-        return each.name, each.supply, each.least, each.most, each.price, each.share
+    def told(source: Source) -> tuple[object, ...]:
+        return source.name, source.supply, source.least, source.most, source.price, source.share
 
-    standard = {each.name: told(each) for each in Case(case.share, case.streams).completed().utilities}
-    return not case.forbidden and all(standard.get(each.name) == told(each) for each in case.utilities)
+    standard = {utility.name: told(utility) for utility in Case(case.share, case.streams).completed().utilities}
+    return not case.forbidden and all(standard.get(utility.name) == told(utility) for utility in case.utilities)
 
 
 def stream_of(row: Row, at: int, kind: str, plant: int | None = None) -> Source:
@@ -172,7 +172,7 @@ class CaseReader(Reader):
     kinds, most = CASE_KINDS, CASE_MOST
 
     def take_named(self, kind: str, row: Row, at: int) -> None:
-        if not all(NAME.match(each) for each in (row[1:3] if kind == 'forbid' else row[1:2])):
+        if not all(NAME.match(name) for name in (row[1:3] if kind == 'forbid' else row[1:2])):
             raise Refused(at, 'BadName')
         if kind == 'forbid':
             return self.take_forbid(row, at)
@@ -212,7 +212,7 @@ class SiteReader(Reader):
         if not NAME.match(row[1]) or is_stream and row[1] in (b'BOILER', b'COOLING'):
             raise Refused(at, 'BadName')
         others = site.plants if kind == 'plant' else [name for name, _ in site.mains]
-        if row[1] in ([each.name for each in site.streams] if is_stream else others):
+        if row[1] in ([stream.name for stream in site.streams] if is_stream else others):
             raise Refused(at, 'SameName')
         if is_stream:
             site.streams.append(stream_of(row, at, kind, len(site.plants) - 1))

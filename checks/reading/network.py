@@ -74,8 +74,8 @@ def statements_in(data: bytes) -> Iterator[list[bytes]]:
     """The fields of the lines that are statements. The last line has no line feed, so that a carriage return there is
     part of it."""
     lines = data.split(b'\n')
-    for line in [each.removesuffix(b'\r') for each in lines[:-1]] + lines[-1:]:
-        fields = [each for each in re.split(rb'[ \t]+', line) if each]
+    for line in [raw.removesuffix(b'\r') for raw in lines[:-1]] + lines[-1:]:
+        fields = [word for word in re.split(rb'[ \t]+', line) if word]
         if fields and not fields[0].startswith(b'#'):
             yield fields
 
@@ -104,8 +104,8 @@ class NetworkReader:
         self.case, self.at = case, 0
         self.statements: list[Statement] = []
         self.exchangers: dict[bytes, Exchanger] = {}
-        self.branches = {each.name: Branch(each, Fraction(each.size()), Fraction(each.states()[0]))
-                         for each in case.streams}
+        self.branches = {stream.name: Branch(stream, Fraction(stream.size()), Fraction(stream.states()[0]))
+                         for stream in case.streams}
 
     def take(self, fields: list[bytes]) -> None:
         self.at += 1
@@ -176,9 +176,9 @@ class NetworkReader:
         return End(self.at, self.used(name))
 
     def end(self) -> list[Statement]:
-        for each in self.exchangers.values():
-            if any(side.stream and side.hot not in each.passed for side in (each.hot, each.cold)):
-                raise Refused(each.line, 'MissingPass')
+        for exchanger in self.exchangers.values():
+            if any(side.stream and side.hot not in exchanger.passed for side in (exchanger.hot, exchanger.cold)):
+                raise Refused(exchanger.line, 'MissingPass')
         return self.statements
 
 

@@ -32,8 +32,8 @@ class StudyReader:
     """Takes the rows of a price study of a completed case one after the other."""
 
     def __init__(self, case: Case) -> None:
-        self.names = [each.name for each in case.utilities]
-        self.prices = [each.price for each in case.utilities]
+        self.names = [utility.name for utility in case.utilities]
+        self.prices = [utility.price for utility in case.utilities]
         self.items: list[Item] = []
         self.scenario: Scenario | None = None
         self.priced: set[bytes] = set()
@@ -58,7 +58,7 @@ class StudyReader:
     def take_scenario(self, name: bytes, at: int) -> None:
         if not NAME.match(name):
             raise Refused(at, 'BadName')
-        if any(isinstance(each, Scenario) and each.name == name for each in self.items):
+        if any(isinstance(item, Scenario) and item.name == name for item in self.items):
             raise Refused(at, 'SameName')
         self.scenario, self.priced = Scenario(name, list(self.prices)), set()
         self.items.append(self.scenario)

@@ -15,14 +15,14 @@ def deficit(streams: list[Source], place: int, above: bool = True) -> int:
     """What the cold streams take above (or below) a shifted temperature, less what the hot ones give there. A load
     counts where its level is."""
     low, high = (place, FAR) if above else (-FAR, place)
-    return sum((-1 if each.hot else 1) * (each.cp * within(each.span(), low, high)
-                                          + each.load * (low < each.span()[0] < high)) for each in streams)
+    return sum((-1 if stream.hot else 1) * (stream.cp * within(stream.span(), low, high)
+                                            + stream.load * (low < stream.span()[0] < high)) for stream in streams)
 
 
 def deficit_from(streams: list[Source], place: int) -> int:
     """The deficit above a shifted temperature with the loads at it."""
-    return deficit(streams, place) + sum((-1 if each.hot else 1) * each.load
-                                         for each in streams if each.span()[0] == place)
+    return deficit(streams, place) + sum((-1 if stream.hot else 1) * stream.load
+                                         for stream in streams if stream.span()[0] == place)
 
 
 def targets_of(case: Case) -> tuple[int, int, list[int], tuple[int, bool]]:
@@ -38,24 +38,24 @@ def targets_of(case: Case) -> tuple[int, int, list[int], tuple[int, bool]]:
 
 def targets_text(case: Case) -> str:
     hot, cold, pinches, _ = targets_of(case)
-    return 'hot %d\ncold %d\n' % (hot, cold) + (''.join('pinch %d\n' % each for each in pinches) or 'pinch none\n')
+    return 'hot %d\ncold %d\n' % (hot, cold) + (''.join('pinch %d\n' % pinch for pinch in pinches) or 'pinch none\n')
 
 
 def composite_lines(word: str, streams: list[Source]) -> list[str]:
     """The points of the composite curve of one side, from the lowest up: two where loads are."""
     lines = []
-    for place in sorted({end for each in streams for end in (each.supply, each.target)}):
-        below = sum(each.cp * within(each.actual(), -FAR, place) + each.load * (each.supply < place)
-                    for each in streams)
-        there = [each.load for each in streams if each.load and each.supply == place]
+    for place in sorted({end for stream in streams for end in (stream.supply, stream.target)}):
+        below = sum(stream.cp * within(stream.actual(), -FAR, place) + stream.load * (stream.supply < place)
+                    for stream in streams)
+        there = [stream.load for stream in streams if stream.load and stream.supply == place]
         lines += ['%s %d %d\n' % (word, heat, place) for heat in [below] + [below + sum(there)] * bool(there)]
     return lines
 
 
 def curves_text(case: Case) -> str:
-    lines = composite_lines('hot', [each for each in case.streams if each.hot])
-    lines += composite_lines('cold', [each for each in case.streams if not each.hot])
-    target, levels = targets_of(case)[0], {each.span()[0] for each in case.streams if each.load}
+    lines = composite_lines('hot', [stream for stream in case.streams if stream.hot])
+    lines += composite_lines('cold', [stream for stream in case.streams if not stream.hot])
+    target, levels = targets_of(case)[0], {stream.span()[0] for stream in case.streams if stream.load}
     for end in case.ends():
         lines += ['net %d %d\n' % (target - owed(case.streams, end), end)
                   for owed in [deficit] + [deficit_from] * (end in levels)]
@@ -74,7 +74,7 @@ def profile_text(site: Case) -> str:
     for place in places:
         sink = source = 0
         for plant in range(len(site.plants)):
-            streams = [each for each in site.streams if each.plant == plant]
+            streams = [stream for stream in site.streams if stream.plant == plant]
             sink += max([0] + [deficit(streams, other) for other in places if other >= place])
             source += max([0] + [-deficit(streams, other, False) for other in places if other <= place])
         lines.append('profile %d %d %d\n' % (place, sink, source))

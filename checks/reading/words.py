@@ -91,12 +91,12 @@ def taken(role: str, data: bytes, read: Callable[[bytes], Read]) -> Read:
 def wanted_of_two(command: str, case: Case, data: bytes) -> Wanted:
     """What is wanted of a command over a case and another file."""
     if command == 'audit':
-        statements = taken('network', data, lambda held: network_of(held, case.completed()))
+        statements = taken('network', data, lambda network: network_of(network, case.completed()))
         return exactly(*audit_text(case, statements))
     if command == 'certify':
         taken('report', data, report_of)
         return Wanted((0, 1), ('yes ', 'no '))
-    first = taken('study', data, lambda held: study_of(held, case.completed()))[0]
+    first = taken('study', data, lambda study: study_of(study, case.completed()))[0]
     told = ('scenario', first.name) if isinstance(first, Scenario) else ('span', first.utility)
     return Wanted((0,), ('%s %s ' % (told[0], told[1].decode()),))
 
