@@ -75,6 +75,9 @@ def test_a_network_taken_apart_is_all_open(name: str) -> None:
     plan, layout = network_of(name)
     whole, content = whole_of(name)
     for exchanger in plan.placed:
+        if exchanger not in plan.placed:
+            # It went with the one of which it is a part, across a kink.
+            continue
         after = gestures.take_away(plan, exchanger)
         assert unmoved(plan, after) and balanced(after)
         assert read_plan(plan.case, write_plan(after, layout))[0] == after

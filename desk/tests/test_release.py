@@ -226,7 +226,7 @@ def test_a_wheel_brings_the_program_which_its_desk_asks_before_another_one(pinch
     case = str(ROOT / 'examples' / 'tc3.csv')
     assert '107.5' in ran(str(place / 'bin/pinchdesk'), 'targets', case, PATH=path)[1]
     assert ran(str(place / 'bin/pinch'), 'targets', case)[1] == 'hot 107500\ncold 40000\npinch 800\n'
-    assert 'no program' in ran(str(place / 'bin/pinchdesk'), 'targets', case, PINCH='/nowhere')[1]
+    assert 'is not a program' in ran(str(place / 'bin/pinchdesk'), 'targets', case, PINCH='/nowhere')[1]
     assert (place / 'share/doc/pinch/RELEASE').is_file()
     assert ran(*pip, 'uninstall', '-y', 'pinchdesk')[0] == 0
     assert not [path for path in place.rglob('*pinch*')]

@@ -147,8 +147,8 @@ def test_what_searches_find_is_told_in_the_same_units(words: str, plain: Files, 
                              zip((answer.sheets[0] for answer in answers), (plain, other))]
     else:
         texts = [str(answer.content).split('\nexchanger')[0].split('\n') for answer in answers]
-        assert all(re.search(r' kW$| MJ/h$| exchangers$|<cost>$|^# bound|^# duties', token_of(line, other.style))
-                   for line in texts[1])
+        known = r' kW$| MJ/h$| exchangers$|<cost>$|^# (bound|rule|search|duties)| at the least approach '
+        assert all(re.search(known, token_of(line, other.style)) for line in texts[1])
         head = [[part for line in lines if re.match('# (cost|floor)', line) for part in texts_of(line, files.style)]
                 for lines, files in zip(texts, (plain, other))]
     check_same(head[0], head[1], other)

@@ -92,7 +92,8 @@ def chains(draw: some.DrawFn) -> list[tuple[int, int, int]]:
     """The segments of a stream, with both temperatures in tenths of °C and the CP in 10 W/K."""
     way = draw(some.sampled_from((1, -1)))
     steps = draw(some.lists(some.tuples(some.integers(1, 900), some.integers(1, 9000)), min_size=2, max_size=6))
-    made_of, at = [], draw(some.integers(0, 3000))
+    # Six steps down end above the least temperature of a case.
+    made_of, at = [], draw(some.integers(2700, 5000))
     for step, cp in steps:
         made_of.append((at, at + way * step, cp))
         at += way * step

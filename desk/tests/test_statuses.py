@@ -139,7 +139,7 @@ CLOSED = [
     ('$D --version > /dev/full', 2, 'No space'),
     ('$D targets nowhere >&-', 3, 'nowhere: cannot be read'),
     ('$D draw curves $1/tc3.csv -o out.svg >&- 2>&-', 0, ''), ('$D many targets $1/list.txt >&-', 2, 'it is closed'),
-    ('$D network $1/tc3.csv --seconds 2 -o out.txt <&- >&- 2>&-', 0, ''),
+    ('$D network $1/tc3.csv --seconds 2 -o out.txt <&- >&- 2>&-', 2, ''),
     ('$D targets $1/tc3.csv | true; true', 0, ''), ('python3 -u ${D#* } targets $1/tc3.csv > /dev/full', 2, 'No space')]
 
 
@@ -151,6 +151,8 @@ def test_a_closed_or_full_output_is_no_traceback(line: str, status: int, said: s
     if 'out.csv' in line:
         # What was to be told was not; what it would have been told of stands.
         assert (tmp_path / 'out.csv').read_text().endswith('contribution,,50,,,,\nhot,H1,1500,600,200,,\n')
+    if 'network' in line:
+        assert 'exchangers' in (tmp_path / 'out.txt').read_text()
     if 'out.svg' in line:
         assert (tmp_path / 'out.svg').read_text().startswith('<?xml')
 
