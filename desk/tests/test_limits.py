@@ -196,6 +196,7 @@ def test_a_word_that_shows_targets_says_how_far_they_are_off(words: str, tmp_pat
             assert (f'<p>B{ROUNDED_SAID[1:]}.</p>' in (tmp_path / 'c.html').read_text()) == rounded
 
 
+@pytest.mark.long
 def test_each_answer_and_picture_in_a_notebook_says_how_far_the_targets_are_off() -> None:
     plant, whole = read(ROUNDED_TABLE.encode(), 't.csv', difference=10), read(example('tc3.csv'), 'tc3.csv')
     for asked, said in ((plant, True), (whole, False)):

@@ -184,6 +184,7 @@ def test_other_words_have_rows_too(words: list[str], row: dict[str, str], desk: 
     assert ended.status == 0 and row.items() <= rows_of(ended)[0].items()
 
 
+@pytest.mark.long
 def test_the_answers_are_kept_where_it_is_asked(desk: Desk, folder: Path, tmp_path: Path) -> None:
     kept = tmp_path / 'kept'
     assert desk('draw', 'curves', str(folder), '--into', str(kept)).status == 3

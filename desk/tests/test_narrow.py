@@ -17,7 +17,9 @@ from pinchdesk.report.page import Given, page_of, review_of
 
 webdriver = pytest.importorskip('selenium.webdriver', reason='no selenium to look at the page with')
 CHROMIUM, DRIVER = which('chromium'), which('chromedriver')
-pytestmark = pytest.mark.skipif(not (CHROMIUM and DRIVER), reason='no chromium with its chromedriver')
+# In one process, since all look at the same page.
+pytestmark = [pytest.mark.skipif(not (CHROMIUM and DRIVER), reason='no chromium with its chromedriver'),
+              pytest.mark.xdist_group('narrow')]
 NARROW, WIDE = 390, 1280
 PICTURES = """return [...document.querySelectorAll('figure')].map(each => {
 const image = each.querySelector('img');

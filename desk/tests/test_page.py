@@ -239,6 +239,7 @@ def test_on_paper_no_heading_stands_alone_and_no_line_is_cut(steam: str, pinch: 
         assert ''.join(line.split()) in text
 
 
+@pytest.mark.long
 @WITH_BROWSER
 def test_a_browser_prints_the_page(tmp_path: Path) -> None:
     path, names = tmp_path / 'page of a case.pdf', ('crude.csv', 'crude-network.txt')

@@ -189,6 +189,7 @@ def ran(*words: str, **environment: str) -> tuple[int, str]:
     return done.returncode, done.stdout + done.stderr
 
 
+@pytest.mark.long
 @pytest.mark.skipif(not shutil.which('dpkg-deb'), reason='there is no dpkg-deb')
 def test_a_package_of_debian_is_the_same_bytes_each_time_and_runs_where_it_is_unpacked(
         pinch: Pinch, tmp_path: Path) -> None:

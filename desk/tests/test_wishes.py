@@ -135,6 +135,7 @@ def test_a_mix_of_two_temperatures_is_made_one_of_one_where_that_costs_nothing(p
     assert evened(judge, judged, judged.cost, float('inf'), lambda found: None).uneven == 0
 
 
+@pytest.mark.long
 def test_the_last_steps_take_out_what_costs_nothing(pinch: Pinch) -> None:
     case = completed(read_case(example('four-stream.csv')))
     judge, design = Judge(pinch, case), pinch.design(case)
@@ -157,6 +158,7 @@ def test_a_large_case_is_the_same_by_one_worker_or_by_three(pinch: Pinch) -> Non
     assert first.text == again.text
 
 
+@pytest.mark.long
 def test_the_words(tmp_path: Path) -> None:
     out, case = tmp_path / 'few.txt', str(EXAMPLES / 'tc3.csv')
     told = pinchdesk('network', case, '--most-splits', '1', '--steps', '30', '--workers', '1', '-o', str(out))
@@ -168,6 +170,7 @@ def test_the_words(tmp_path: Path) -> None:
     assert told.status == 2 and '--start' in told.err
 
 
+@pytest.mark.long
 def test_a_search_by_steps_names_its_libraries_and_is_the_same_again(pinch: Pinch) -> None:
     case = example('tc3.csv')
     first, again = (find_network(case, pinch=pinch, way=replace(STEPS, workers=count)) for count in (1, 2))
