@@ -17,7 +17,7 @@ from wheel_file import write
 
 LIBRARY = re.compile(r'([A-Za-z0-9_-]+) *(?:>= *([0-9.]+))?')
 # The extras of the desk that Debian installs too, unless it is told not to; those that it only names.
-RECOMMENDED, SUGGESTED = ('networks', 'costs', 'cluster'), ('frames',)
+RECOMMENDED, SUGGESTED = ('networks', 'costs', 'cluster', 'live'), ('frames',)
 PACKAGES = 'usr/lib/python3/dist-packages'
 # What matplotlib's fonts want one of: without a word for the small one, Debian brings scipy with a compiler.
 SMALL = 'python3-munkres | python3-scipy'

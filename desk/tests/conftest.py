@@ -31,7 +31,7 @@ NETWORKS = [name for name in CASES if (EXAMPLES / f'{name}-network.txt').exists(
 # Between them they have a pinch, levels of steam, latent streams, contributions of their own, and prices.
 FEW = ('four-stream', 'own-contributions', 'preheater', 'two-reactors', 'two-steam-levels')
 # The same examples each time, with no memory of earlier runs; the program is slow to start on a busy machine.
-settings.register_profile('desk', deadline=None, max_examples=20, derandomize=True, database=None,
+settings.register_profile('desk', deadline=None, max_examples=12, derandomize=True, database=None,
                           suppress_health_check=[HealthCheck.too_slow])
 settings.register_profile('all', settings.get_profile('desk'), max_examples=100)
 # As in the command: pint takes seconds otherwise, in each process of the tests.

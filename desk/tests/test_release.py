@@ -179,7 +179,9 @@ def test_debian_is_asked_for_the_libraries_of_the_desk() -> None:
         debian_package.library('pint~=0.19')
     told = dict(line.split(': ', 1) for line in debian_package.control_of(ROOT, '9.9.9', []).splitlines()[:10])
     assert told['Depends'].startswith('libc6 (>= 2.34), python3 (>= 3.11), python3-openpyxl (>= 3.0), ')
-    assert told['Recommends'] == 'python3-scipy (>= 1.10), python3-mpmath (>= 1.2), python3-distributed (>= 2022.12)'
+    assert told['Recommends'] == ('python3-scipy (>= 1.10), python3-mpmath (>= 1.2), python3-distributed (>= 2022.12), '
+                                  'python3-starlette (>= 0.26), python3-uvicorn (>= 0.17), '
+                                  'python3-websockets (>= 10.4)')
 
 
 def ran(*words: str, **environment: str) -> tuple[int, str]:
