@@ -67,10 +67,15 @@ def pytest_configure(config: pytest.Config) -> None:
     settings.load_profile('all' if config.getoption('--all') else 'desk')
 
 
+@pytest.hookimpl(tryfirst=True)
 def pytest_collection_modifyitems(config: pytest.Config, items: list[pytest.Item]) -> None:
-    """A long test is for --all, and for whoever names it."""
+    """A file is for one process of pytest-xdist, so that no other one loads or makes what its tests share; with --all
+    that would wait for the longest file. A long test is for --all, and for whoever names it."""
     if config.getoption('--all') or any('::' in word for word in config.args):
         return
+    for item in items:
+        if not item.get_closest_marker('xdist_group'):
+            item.add_marker(pytest.mark.xdist_group(item.location[0]))
     long = [item for item in items if item.get_closest_marker('long')]
     config.hook.pytest_deselected(items=long)
     items[:] = [item for item in items if item not in long]
@@ -151,6 +156,12 @@ def many_here(request: pytest.FixtureRequest, monkeypatch: pytest.MonkeyPatch) -
     started loads all anew."""
     if of_all(True, False) and not request.node.get_closest_marker('processes'):
         monkeypatch.setattr('pinchdesk.batch.order.by_processes', done_here)
+
+
+@pytest.fixture
+def without_curves(monkeypatch: pytest.MonkeyPatch) -> None:
+    """Pages have no curves, which take half of their time, for tests that look at something else."""
+    monkeypatch.setattr('pinchdesk.report.page.curves_of', lambda _: [])
 
 
 @pytest.fixture

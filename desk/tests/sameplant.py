@@ -10,6 +10,7 @@ from collections.abc import Iterator, Sequence
 from dataclasses import dataclass, replace
 from decimal import Decimal
 from fractions import Fraction
+from functools import cache
 from html.parser import HTMLParser
 from pathlib import Path
 from typing import Any
@@ -171,6 +172,7 @@ class Files:
             differences = re.sub(r'(?<= )(\d+)(?= |$)', r'\1K', differences)
         return [self.path(word[1:-1]) if word.startswith('{') else word for word in (differences + flag + more).split()]
 
+    @cache
     def answer(self, text: str) -> Said:
         """What words say: their tables, and what would be written."""
         said: list[Said] = []

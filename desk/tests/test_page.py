@@ -81,6 +81,7 @@ def test_the_page_stands_alone_and_styles_do_not_meet(steam: str) -> None:
     assert steam.count('<img src="data:image/svg+xml;base64,') == 5
 
 
+@pytest.mark.usefixtures('without_curves')
 def test_prices_and_costs_of_the_page_have_the_units_of_the_table(tmp_path: Path) -> None:
     table, case, page = (tmp_path / name for name in ('table.csv', 'case.csv', 'page.html'))
     table.write_text('kind;name;supply;target;CP;price\nhot;Kühlung;170;60;3;\ncold;C;80;140;10;\n'
@@ -95,6 +96,7 @@ def test_prices_and_costs_of_the_page_have_the_units_of_the_table(tmp_path: Path
     assert f'Least cost of a heat flow: {wanted} EUR/a' in text and shown.price(120) == '120'
 
 
+@pytest.mark.usefixtures('without_curves')
 def test_hostile_names_and_texts_are_only_shown() -> None:
     case, network = given('preheater.csv', 'preheater-network.txt')
     bad = '<script>alert(1)</script>{{ 7 * 7 }}\x1b[31m.csv'
@@ -104,6 +106,7 @@ def test_hostile_names_and_texts_are_only_shown() -> None:
     assert '&lt;script&gt;alert(1)&lt;/script&gt;{{ 7 * 7 }}' in page and '&lt;script&gt;alert(2)' in page
 
 
+@pytest.mark.usefixtures('without_curves')
 def test_a_page_says_what_it_is_and_how_it_is_made_again(tmp_path: Path, pinch: Pinch) -> None:
     names = ('own-contributions.csv', 'own-contributions-network.txt')
     for name in names:
@@ -168,6 +171,7 @@ def test_without_a_heat_flow_the_page_says_why(tmp_path: Path, capfd: pytest.Cap
     assert capfd.readouterr().err == ''
 
 
+@pytest.mark.usefixtures('without_curves')
 def test_a_page_is_written_whole_or_not_at_all(tmp_path: Path) -> None:
     case, page = tmp_path / "it's - a case.csv", tmp_path / '-page.html'
     case.write_bytes(example('four-stream.csv'))

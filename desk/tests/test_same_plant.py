@@ -173,7 +173,7 @@ def parts_of_picture(files: Files, words: str) -> Parts:
     return told
 
 
-@pytest.mark.parametrize('words', PICTURES)
+@pytest.mark.parametrize('words', few_of(PICTURES, (PICTURES[0], *PICTURES[5:])))
 def test_a_picture_is_that_of_the_same_plant(words: str, plain: Files, other: Files) -> None:
     skip_site(words, other)
     one, same = parts_of_picture(plain, words), parts_of_picture(other, words)

@@ -69,6 +69,7 @@ BY_NETWORK = [['audit'], ['table'], ['units'], ['rest'], ['draw', 'grid', '-o', 
               ['tradeoff', '--seconds', '1'], ['network', '--start']]
 
 
+@pytest.mark.usefixtures('without_curves')
 @pytest.mark.parametrize('words', BY_NETWORK, ids=str)
 def test_a_network_that_is_too_fine_is_not_rejected(words: list[str], desk: Desk, tmp_path: Path,
                                                     monkeypatch: pytest.MonkeyPatch) -> None:

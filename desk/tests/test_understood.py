@@ -32,6 +32,7 @@ def test_a_switch_shows_how_a_table_was_understood_in_place_of_the_case(plant: P
     assert 'plant' in many.out and many.status == 3, many.out
 
 
+@pytest.mark.usefixtures('without_curves')
 def test_the_page_has_how_the_table_of_its_case_was_understood(plant: Path) -> None:
     done = pinchdesk('page', 'case.csv', '--table', 'plant.csv', '-o', 'page.html', cwd=plant)
     assert done.status == 0, done.err

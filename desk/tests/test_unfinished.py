@@ -49,6 +49,7 @@ def test_a_word_says_that_it_is_unfinished(word: tuple[str, ...], begun: str) ->
     assert 'ccepted\n' not in done.out
 
 
+@pytest.mark.usefixtures('without_curves')
 def test_a_picture_and_a_page_say_it_too(begun: str, tmp_path: Path) -> None:
     for words, name in ((('draw', 'grid'), 'grid.svg'), (('page',), 'page.html')):
         assert pinchdesk(*words, str(TC3), begun, '-o', str(tmp_path / name)).status == 0
