@@ -26,7 +26,7 @@ def test_utilities_are_what_their_titles_and_names_say() -> None:
         (SHENOY, [('Hot-utility', 'hot', 1790), ('Cold-utility', 'cold', 250)]),
         (BOOK, [('HP-steam', 'hot', 2390), ('Cooling-water', 'cold', 250)]))
     for content, levels in wanted:
-        case = made(content, Wanted('10 K'), 't').case
+        case = made(content, Wanted('10 K', levels=True), 't').case
         assert [(utility.name, utility.side.value, utility.level) for utility in case.utilities] == levels
     assert 'has to say heater or cooler' in refusal('Utilities\nName;Level;Price\nBFW;150;3\n\nName;Tin;Tout;CP\n'
                                                     'H1;150;60;2\n')

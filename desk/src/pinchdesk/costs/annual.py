@@ -6,6 +6,7 @@ from fractions import Fraction
 from math import ceil
 
 from ..formats.cost_rows import Build, CostLaw, Measured, Per
+from ..formats.range_parts import cost_of_ranges
 from .cost_data import CostData, square_metres
 from .enclosure import Enclosure, enclosed, power
 
@@ -13,21 +14,24 @@ from .enclosure import Enclosure, enclosed, power
 @dataclass(frozen=True)
 class AnnualCost:
     """What a network or a target costs, in the money of the capital: the capital itself, what of it is a cost of a
-    year, and the energy of a year, which is exact."""
+    year, and the energy of a year, which is exact. `ranges` is what the utilities with a range cost a year, which are
+    streams of the case, so that the costs of the program do not have it in them."""
 
     capital: Enclosure
     capital_a_year: Enclosure
     energy: Fraction
+    ranges: Fraction = Fraction(0)
 
     @property
     def whole(self) -> Enclosure:
-        """Both together, a year."""
+        """Capital and energy together, a year, without the utilities with a range."""
         return self.capital_a_year + self.energy
 
 
 def annual_cost(data: CostData, capital: Enclosure, cost: int | Fraction) -> AnnualCost:
     """The annual cost of a capital, and of a cost of the program, price times W."""
-    return AnnualCost(capital, capital * data.annual_factor, cost * data.year_of_cost)
+    return AnnualCost(capital, capital * data.annual_factor, cost * data.year_of_cost,
+                      cost_of_ranges(data.case) * data.year_of_cost)
 
 
 def price_of(data: CostData, law: CostLaw, area: Enclosure, count: int = 1) -> Enclosure:

@@ -14,6 +14,7 @@ from ..formats.case import Case, Side, Source, Stream, Utility
 from ..formats.case_units import TEMPERATURES
 from ..formats.cost_rows import (Annual, AnnualForm, Build, Capital, CostLaw, CostRow, Film, Material, Measured,
                                  Overall, UtilityRange, Service, printed_cost_row)
+from ..formats.range_parts import range_names
 from ..formats.whole_streams import whole_names
 from ..tables.money import two_moneys
 from ..tables.units import Kind, UnknownUnit, unit_of
@@ -73,6 +74,11 @@ class CostData:
         """The real ends of the utilities that have some."""
         return {row.utility: self.resolved(f'#range of {row.utility}', self.range_of, row)
                 for row in self.rows(UtilityRange)}
+
+    @cached_property
+    def ranged(self) -> frozenset[str]:
+        """The streams that are utilities with a range, whole and in segments."""
+        return range_names(self.case) | {utility.name for utility in self.case.basis.ranges}
 
     @cached_property
     def wholes(self) -> Mapping[str, str]:

@@ -184,7 +184,7 @@ def part_duties(data: CostData, passage: Passage) -> Iterator[Duty]:
 
 def exchanger_area(data: CostData, passage: Passage, warmer: int = 0) -> ExchangerArea:
     """An exchanger with its area. `warmer` is by how many K both differences are taken larger."""
-    name, service = passage.exchanger.name, service_of(passage)
+    name, service = passage.exchanger.name, service_of(data, passage)
     parts = [part_area(data, name, part, duty, warmer)
              for part, duty in zip(passage.parts, part_duties(data, passage))]
     heat, area = sum((part.duty for part in parts), Fraction(0)), total(part.area for part in parts)
@@ -204,7 +204,7 @@ def part_area(data: CostData, name: str, passage: Passage, duty: Duty, warmer: i
         if found <= 0:
             raise refused(f'exchanger {name}', f'at its {end} end the difference is {decimal(found, 2)} K: no area is '
                           'large enough')
-    service, heat = service_of(passage), data.watts(passage.exchanger.duty)
+    service, heat = service_of(data, passage), data.watts(passage.exchanger.duty)
     wide = Duty(EndTemperatures(duty.hot.inlet + 10 * warmer, duty.hot.outlet + 10 * warmer), duty.cold)
     build, coefficient = data.build(service), data.coefficient(passage.hot.source, passage.cold.source)
     shells, factor = 1, total([1])
@@ -221,10 +221,15 @@ def part_area(data: CostData, name: str, passage: Passage, duty: Duty, warmer: i
     return ExchangerArea(name, service, duty, heat, coefficient, mean, factor, shells, area)
 
 
-def service_of(passage: Passage) -> Service:
-    if isinstance(passage.hot.source, Utility):
+def service_of(data: CostData, passage: Passage) -> Service:
+    """What an exchanger does; a stream that is a utility with a range is a utility."""
+    if is_utility(data, passage.hot):
         return Service.HEATER
-    return Service.COOLER if isinstance(passage.cold.source, Utility) else Service.EXCHANGER
+    return Service.COOLER if is_utility(data, passage.cold) else Service.EXCHANGER
+
+
+def is_utility(data: CostData, side: SideState) -> bool:
+    return isinstance(side.source, Utility) or bool(data.ranged.intersection(data.names_of(side.source)))
 
 
 def uses_in(passages: Sequence[Passage]) -> dict[str, Fraction]:

@@ -18,6 +18,7 @@ from .case_units import CaseUnits, read_units, units_row
 from .comments import Basis as Basis
 from .comments import basis_rows, noted
 from .long_fields import long_fields
+from .ranges import range_fault
 from .segments import segment_fault
 
 ANY_HEAT = 10 ** 12
@@ -127,6 +128,15 @@ def actual(source: Source, temperature: int) -> int:
     return temperature + source.contribution if source.side is Side.HOT else temperature - source.contribution
 
 
+def parts_of_streams(case: Case) -> dict[str, tuple[Stream, ...]]:
+    """The streams of the program that each stream of the plant is."""
+    streams = {stream.name: stream for stream in case.streams}
+    parts = {segmented.name: tuple(streams[name] for name in segmented.segments if name in streams)
+             for segmented in case.basis.segments}
+    within = {name for segmented in case.basis.segments for name in segmented.segments}
+    return {**{name: (stream,) for name, stream in streams.items() if name not in within}, **parts}
+
+
 def decoded(text: str | bytes) -> str:
     """A text without its byte order mark; bytes that are no UTF-8 can stand in comments alone."""
     characters = text.decode('utf-8', 'replace') if isinstance(text, bytes) else text
@@ -164,8 +174,9 @@ class CaseReader:
         self.utilities: list[tuple[Utility, int | None]] = []
         self.forbids: list[Forbid] = []
         self.basis = Basis()
-        # The rows of segments by their names.
+        # The rows of segments and of utilities with a range by their names.
         self.segment_rows: dict[str, int] = {}
+        self.range_rows: dict[str, int] = {}
 
     def take(self, at: int, row: Sequence[str]) -> None:
         """Reads a row; `Refused` where it can be no row of a case."""
@@ -193,6 +204,8 @@ class CaseReader:
             raise Refused(3, place, 'comment', f'{place} {row[0]}: {fault}') from fault
         if row[0] == '#segment':
             self.segment_rows[row[2]] = at
+        elif row[0] == '#utility':
+            self.range_rows[row[1]] = at
 
     def take_stream(self, at: int, row: Sequence[str]) -> None:
         supply, target, cp = (number('case', at, text) for text in row[2:5])
@@ -214,6 +227,7 @@ class CaseReader:
                           for utility, own in self.utilities)
         case = Case(share, streams, utilities, tuple(self.forbids), self.basis)
         self.check_segments(case)
+        self.check_ranges(case)
         return case
 
     def check_segments(self, case: Case) -> None:
@@ -224,6 +238,15 @@ class CaseReader:
             if fault:
                 place = f'case row {self.segment_rows[fault.segment]}'
                 raise Refused(3, place, 'segment', f'{place} #segment: {fault.cause}')
+
+    def check_ranges(self, case: Case) -> None:
+        """`Refused` where what is to be a utility with a range is no such stream."""
+        parts = parts_of_streams(case)
+        for utility in case.basis.ranges:
+            fault = range_fault(utility, parts)
+            if fault:
+                place = f'case row {self.range_rows[utility.name]}'
+                raise Refused(3, place, 'utility', f'{place} #utility: {fault}')
 
 
 def read_case(text: str | bytes) -> Case:

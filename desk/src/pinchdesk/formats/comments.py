@@ -1,6 +1,6 @@
 """What a case says for the desk in rows that begin with `#` and that the program passes over: its scale, the units of
-its prices and costs, the names that its table had, which of its streams are segments of one (`segments`), and what it
-says of areas and money (`cost_rows`)."""
+its prices and costs, the names that its table had, which of its streams are segments of one (`segments`) and which are
+utilities (`ranges`), and what it says of areas and money (`cost_rows`)."""
 from __future__ import annotations
 
 from collections.abc import Iterator, Sequence
@@ -11,6 +11,7 @@ from ..text import plain, printable, read_again
 from .amounts import exact, shortened
 from .case_units import CaseUnits, read_units, units_row
 from .cost_rows import CostRow, printed_cost_row, read_cost_row, with_row
+from .ranges import RangedUtility, range_rows, with_range
 from .segments import SegmentedStream, segment_rows, with_segment
 
 # What a scale and a divisor are at least; at most they are one over it. Prices in odd units have long divisors.
@@ -30,7 +31,8 @@ class Basis:
     that was made fit, as (name in the table, name in the case); `cost_rows` what is said of areas and money;
     `rounding` how far what the table rounded takes the targets, empty where it does not; `difference` the least
     difference and where it comes from, as `10 K, by -d 10`, empty where nothing says it. `units` are those of the table
-    where the case has them, in place of tenths of °C and W; `segments` are the streams that it has in segments."""
+    where the case has them, in place of tenths of °C and W; `segments` are the streams that it has in segments, and
+    `ranges` those that are utilities with a range of temperature."""
 
     scale: Fraction = Fraction(1)
     price_unit: str = ''
@@ -43,6 +45,7 @@ class Basis:
     difference: str = ''
     units: CaseUnits | None = None
     segments: tuple[SegmentedStream, ...] = ()
+    ranges: tuple[RangedUtility, ...] = ()
 
 
 def noted(basis: Basis, row: Sequence[str]) -> Basis:
@@ -58,6 +61,8 @@ def noted(basis: Basis, row: Sequence[str]) -> Basis:
         return replace(basis, cost_rows=with_row(basis.cost_rows, cost_row))
     if word == '#segment':
         return replace(basis, segments=with_segment(basis.segments, row))
+    if word == '#utility':
+        return replace(basis, ranges=with_range(basis.ranges, row))
     if word == '#name':
         return replace(basis, names=(*basis.names, (first, second)))
     if word == '#units':
@@ -102,4 +107,5 @@ def basis_rows(basis: Basis) -> Iterator[list[str]]:
     for old, new in basis.names:
         yield ['#name', plain(old), new, '', '', '', '']
     yield from segment_rows(basis.segments)
+    yield from range_rows(basis.ranges)
     yield from (printed_cost_row(row) for row in basis.cost_rows)

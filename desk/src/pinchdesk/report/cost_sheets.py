@@ -54,7 +54,15 @@ def cost_facts(cost: AnnualCost, currency: str) -> FactRow:
     return (Fact('capital', money(cost.capital), currency),
             Fact('capital a year', money(cost.capital_a_year), f'{currency}/a'),
             Fact('energy a year', money(cost.energy), f'{currency}/a'),
-            Fact('annual cost', money(cost.whole), f'{currency}/a'))
+            Fact('annual cost', money(cost.whole), f'{currency}/a'), *beside_facts(cost, currency))
+
+
+def beside_facts(cost: AnnualCost, currency: str) -> FactRow:
+    """What the utilities with a range cost a year, where a case has some, and the annual cost with it."""
+    if not cost.ranges:
+        return ()
+    return (Fact('utilities with a range a year', money(cost.ranges), f'{currency}/a'),
+            Fact('annual cost with these', money(cost.whole + cost.ranges), f'{currency}/a'))
 
 
 def annual_facts(costs: NetworkCosts) -> FactRow:

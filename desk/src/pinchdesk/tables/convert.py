@@ -57,7 +57,7 @@ def is_case(content: bytes) -> bool:
     try:
         read_case(content)
     except Refused as fault:
-        return fault.cause in ('comment', 'segment')
+        return fault.cause in ('comment', 'segment', 'utility')
     return True
 
 
@@ -108,7 +108,7 @@ def converted(table: Table, wanted: Wanted) -> Converted:
         if old != new and old not in made:
             told.notes.append(f'the name `{old}` becomes {new}')
     told.notes += other_sheets.told(table)
-    entries = Entries(reader, told, names, wanted.scale, wanted.own_units)
+    entries = Entries(reader, told, names, wanted.scale, wanted.own_units, wanted.levels)
     return Maker(told, reader, entries, blocks, wanted, segmented).made(body, names)
 
 
@@ -157,4 +157,5 @@ def checked(made: Converted, pinch: Pinch) -> Converted:
     said = how_far_off(made.exact, hot, cold, made.case.basis.scale)
     if not said:
         return made
+    said += ', without its utilities with a range' if made.ranges else ''
     return replace(made, notes=(*made.notes, said), comments=(*made.comments, f'# {said}'))

@@ -16,8 +16,9 @@ from .cells import CellReader, Told
 from .conversion import Converted, Wanted
 from .doubts import below_titles, note_words, open_pairs, two_units, units_in_words
 from .least_difference import half, is_bare, said_difference
-from .own_units import ExactNumbers, in_own_units
+from .own_units import ExactNumbers, in_own_units, whole
 from .prices import PriceFault, PriceUnit, Priced, priced
+from .ranged import RangeRow, without_ranges
 from .rows import Body, Line
 from .segmented import SegmentRows, fit_segments
 from .sources import Entries
@@ -57,15 +58,35 @@ class Maker:
         streams = tuple(replace(stream, contribution=share if own is None else own) for _, stream, own in self.streams)
         self.told.settle()
         case = Case(share, streams, tuple(utilities), tuple(forbid for _, forbid in self.forbids), basis)
-        rows = [share_row] * (len(list(basis_rows(basis))) + 1)
-        rows += [row for row, _, _ in self.streams] + [row for row, _, _ in self.utilities]
-        rows += [row for row, _ in self.forbids]
         exact = tuple(self.entries.exact(line, side, exact_share) for line, side in self.stream_lines)
+        numbers = self.numbers(exact_share)
         if self.wanted.own_units:
-            case = in_own_units(case, self.numbers(exact_share), self.reader, body.lines, self.told)
-            rows = [share_row, *rows]
-        return Converted(case, self.told.table, tuple(rows), tuple(self.told.notes), body.comments, exact, self.blocks,
-                         body, f'{Shown(case.basis).least_difference(case.contribution)}, {self.origin(share_row)}')
+            case = in_own_units(case, numbers, self.reader, body.lines, self.told, self.entries.ends)
+        split = without_ranges(case, self.range_rows(case, numbers))
+        return Converted(split.case, self.told.table, self.origins(split.case, share_row), tuple(self.told.notes),
+                         body.comments, exact, self.blocks, body,
+                         f'{Shown(case.basis).least_difference(case.contribution)}, {self.origin(share_row)}',
+                         split.ranges, split.forbids)
+
+    def origins(self, case: Case, share_row: int) -> tuple[int, ...]:
+        """The row of the table behind each row of a case."""
+        rows = {stream.name: row for row, stream, _ in self.streams}
+        rows |= {utility.name: row for row, utility, _ in self.utilities}
+        pairs = {forbid: row for row, forbid in self.forbids}
+        return (*[share_row] * (len(list(basis_rows(case.basis))) + 1), *(rows[source.name] for source in case.sources),
+                *(pairs[forbid] for forbid in case.forbids))
+
+    def range_rows(self, case: Case, numbers: ExactNumbers) -> dict[str, RangeRow]:
+        """The utilities with a range by their names, each with its end as the case has it."""
+        made: dict[str, RangeRow] = {}
+        for utility, source in zip(case.utilities, numbers.utilities):
+            if source.row in self.entries.ends:
+                end = self.entries.ends[source.row]
+                if case.basis.units and source.target is not None:
+                    exact = case.basis.units.of_tenths(source.target)
+                    end = whole(exact, f'the target of {utility.name}', source.row, self.told)
+                made[utility.name] = RangeRow(source.row, end)
+        return made
 
     def origin(self, row: int) -> str:
         """Where the least difference comes from: the words, or this row of the table."""
@@ -207,9 +228,10 @@ class Maker:
         self.tell_rounded(made)
         if given and not any(line.kind == 'heater' for _, line, _, _ in self.priced):
             self.without_heater(made.basis)
-        whole = iter(made.prices)
+        made_prices = iter(made.prices)
         usual = {'heater': 0 if given else 1, 'cooler': 0}
-        prices = [usual[line.kind] if value is None else next(whole) for _, line, value, _ in self.priced]
+        prices = [usual[line.kind] if value is None else next(made_prices)
+                  for _, line, value, _ in self.priced]
         return [replace(utility, price=price, contribution=share if own is None else own)
                 for (_, utility, own), price in zip(self.utilities, prices)], made.basis
 

@@ -2,7 +2,7 @@
 table has to that place."""
 from __future__ import annotations
 
-from collections.abc import Iterator, Sequence
+from collections.abc import Collection, Iterator, Sequence
 from dataclasses import dataclass, replace
 from fractions import Fraction
 from math import floor
@@ -48,9 +48,10 @@ class ExactNumbers:
     utilities: tuple[ExactSource, ...]
 
 
-def in_own_units(case: Case, numbers: ExactNumbers, reader: CellReader, lines: Sequence[Line], told: Told) -> Case:
-    """A case in the units of its table. What is rounded in these is told in place of what was in tenths of °C and W;
-    `Refused` where no steps hold its numbers."""
+def in_own_units(case: Case, numbers: ExactNumbers, reader: CellReader, lines: Sequence[Line], told: Told,
+                 ranged: Collection[int] = ()) -> Case:
+    """A case in the units of its table; the utilities of the rows `ranged` have their supply as level. What is rounded
+    in these units is told in place of what was in tenths of °C and W; `Refused` where no steps hold its numbers."""
     if case.basis.scale != 1:
         raise Refused(3, '', 'units', 'a case in the units of its table has no scale: leave out --scale')
     temperature, heat, watts = units_of_table(reader, lines)
@@ -58,7 +59,7 @@ def in_own_units(case: Case, numbers: ExactNumbers, reader: CellReader, lines: S
     told.notes[:] = [note for note in told.notes if note not in told.roundings]
     told.notes.append(f'the case is in {temperature} and {heat}, as the table')
     streams = tuple(stream_of(stream, source, units, told) for stream, source in zip(case.streams, numbers.streams))
-    utilities = tuple(utility_of(utility, source, units, told)
+    utilities = tuple(utility_of(utility, source, units, told, source.row in ranged)
                       for utility, source in zip(case.utilities, numbers.utilities))
     times = units.parts / units.watts
     basis = replace(case.basis, units=units, cost_divisor=case.basis.cost_divisor * times)
@@ -170,12 +171,14 @@ def stream_of(stream: Stream, source: ExactSource, units: CaseUnits, told: Told)
                    contribution=rounded_of(units.of_tenths_between(share), 'contribution'))
 
 
-def utility_of(utility: Utility, source: ExactSource, units: CaseUnits, told: Told) -> Utility:
+def utility_of(utility: Utility, source: ExactSource, units: CaseUnits, told: Told, ranged: bool = False) -> Utility:
     def rounded_of(amount: Fraction, what: str) -> int:
         return whole(amount, f'the {what} of {utility.name}', source.row, told)
     share = source.share if source.own is None else source.own
     ends = [source.supply] if source.target is None else [source.supply, source.target]
     level = min(ends) if utility.side is Side.HOT else max(ends)
+    if ranged:
+        level = source.supply
     least = Fraction(0) if source.least is None else units.of_watts(source.least)
     most = Fraction(ANY_HEAT) if source.most is None else units.of_watts(source.most)
     contribution = rounded_of(units.of_tenths_between(share), 'contribution')

@@ -35,8 +35,11 @@ class Entries:
     """Makes streams and utilities of lines; what is wrong is told as a fault, and then there is none."""
 
     def __init__(self, reader: CellReader, told: Told, names: dict[str, str], scale: Fraction,
-                 own_units: bool = False) -> None:
+                 own_units: bool = False, levels: bool = False) -> None:
         self.reader, self.told, self.names, self.scale, self.own_units = reader, told, names, scale, own_units
+        self.levels = levels
+        # Where a utility with a range leaves, by its row.
+        self.ends: dict[int, int] = {}
         self.duties: list[tuple[Line, Side, Entered]] = []
         self.heats: list[tuple[Limit, Fraction]] = []
         self.too_large = False
@@ -103,10 +106,10 @@ class Entries:
             return None
         return self.limited(line, heading, Kind.TEMPERATURE, TEMPERATURE)
 
-    def stream(self, line: Line) -> tuple[Stream, int | None] | None:
-        """A stream with the contribution of its own."""
+    def stream(self, line: Line, has_price: bool = False) -> tuple[Stream, int | None] | None:
+        """A stream with the contribution of its own. A segment of a utility may have a price."""
         name, share = self.name(line), self.share(line)
-        self.none_of(line, 'a stream', (Heading.LEAST, Heading.MOST, Heading.PRICE))
+        self.none_of(line, 'a stream', (Heading.LEAST, Heading.MOST, *(() if has_price else (Heading.PRICE,))))
         supply, target = self.temperature(line, Heading.SUPPLY), self.temperature(line, Heading.TARGET)
         if supply is None or target is None:
             return None
@@ -309,7 +312,8 @@ class Entries:
         return replace(line, kind='heater' if side is Side.HOT else 'cooler')
 
     def level(self, line: Line) -> int | None:
-        """The one temperature of a utility: of a range that which is worth less, which is told."""
+        """The one temperature of a utility, or that at which one with a range enters; of one that is to have a level
+        the end that is worth less, which is told."""
         level = self.temperature(line, Heading.SUPPLY)
         if not self.given(line, Heading.TARGET):
             return level
@@ -320,6 +324,9 @@ class Entries:
         if (level > end) != (line.kind == 'heater'):
             self.told.fault(line.row.number, column, f'a {line.kind} runs the other way')
             return None
+        if not self.levels:
+            self.ends[line.row.number] = end
+            return level
         first, last = (self.reader.entered[line.row.number, line.columns[heading]].text
                        for heading in (Heading.SUPPLY, Heading.TARGET))
         self.told.note(line.row.number, column, f'a utility has one temperature: of {first} to {last} the end that is '

@@ -3,10 +3,13 @@ from __future__ import annotations
 
 from dataclasses import dataclass, replace
 
-from ..errors import of_file
+from ..analysis.range_sizes import checked_range, with_sizes
+from ..errors import Refused, of_file
 from ..formats.case import print_case, print_comments
 from ..formats.comments import DIFFERENCE, basis_rows
+from ..formats.shown import Shown
 from ..program.run import Pinch
+from ..report.range_sheets import range_told
 from ..report.understood_sheet import understood_sheet
 from ..search.budget import Telling, nobody
 from ..tables.convert import Converted, Wanted, case_of_table, checked
@@ -26,6 +29,8 @@ DECLARED = (
     Option('hours', 'the operating hours a year: costs are then per year', ('--hours',), metavar='H'),
     Option('units', 'SI, or `table`: exact in the units of the table, which all words then show', ('--units',),
            default='SI', choices=('SI', 'table')),
+    Option('ranges', 'a utility with a range is a stream with the least CP that is enough; or with `level` it has the '
+           'end that is worth less as its level', ('--ranges',), default='stream', choices=('stream', 'level')),
     Option('show', 'shows in place of the case how the table was understood', ('--show',), default=False, switch=True))
 # How long what is said of a case is in a table of many.
 LONGEST = 300
@@ -43,19 +48,37 @@ class CaseOptions:
     hours: str | None = None
     units: str = 'SI'
     tolerance: str = '0'
+    ranges: str = 'stream'
     show: bool = False
 
     @property
     def wanted(self) -> Wanted:
         wanted = wanted_by(self.difference, self.sheet, self.separator, self.decimal, self.scale, self.hours,
                            self.tolerance)
-        return replace(wanted, own_units=self.units == 'table')
+        return replace(wanted, own_units=self.units == 'table', levels=self.ranges == 'level')
 
 
 def converted(pinch: Pinch, file: TextFile, wanted: Wanted) -> Converted:
     """The case of a table, which the program takes."""
     with of_file(file.name):
-        return checked(case_of_table(file.content, file.name, wanted), pinch)
+        return with_ranges(checked(case_of_table(file.content, file.name, wanted), pinch), pinch)
+
+
+def with_ranges(table: Converted, pinch: Pinch) -> Converted:
+    """A case with its utilities with a range, of the sizes that are found for them; what is refused of one is refused
+    by its row."""
+    if not table.ranges:
+        return table
+    row = table.ranges[0][0]
+    try:
+        made = with_sizes(pinch, table.case, [utility for _, utility in table.ranges], table.range_forbids)
+    except Refused as fault:
+        named = (at for at, utility in table.ranges if fault.text.startswith(f'{utility.name} '))
+        raise table.table.refusal(next(named, row), None, fault.text) from fault
+    shown = Shown(made.case.basis)
+    told = [f'{table.table.place(at, None)}: {range_told(checked_range(pinch, made.case, utility), shown)}'
+            for utility in made.case.basis.ranges for at, unsized in table.ranges if unsized.name == utility.name]
+    return replace(table, case=made.case, notes=(*table.notes, *told, *made.notes))
 
 
 def case_text(table: Converted) -> str:

@@ -1,11 +1,13 @@
 """The word `flow`."""
 from __future__ import annotations
 
+from ..analysis.range_sizes import checked_ranges
 from ..errors import about
 from ..formats.shown import Shown
 from ..program.answers import Cut
 from ..program.run import Pinch
 from ..report.answer_sheets import cut_told, flow_facts, flow_sheets
+from ..report.range_sheets import range_sheets
 from ..search.budget import Telling, nobody
 from .shared import CASE, SHOWN_IN, CaseShown, completed_case
 from .word import Answer, Files, Word, feasibility
@@ -14,9 +16,12 @@ from .word import Answer, Files, Word, feasibility
 def flow(files: Files, _: CaseShown = CaseShown(), tell: Telling = nobody) -> Answer:
     file = files.one('case')
     with about(case=file.name):
-        printed, case = Pinch().flow(file.content), completed_case(file.content)
-    cut = printed if isinstance(printed, Cut) else None
-    return Answer(tuple(flow_sheets(case, printed)), facts=(flow_facts(case, printed),),
+        pinch = Pinch()
+        printed, case = pinch.flow(file.content), completed_case(file.content)
+        cut = printed if isinstance(printed, Cut) else None
+        least = None if isinstance(printed, Cut) else printed.cost
+        ranges = range_sheets(case, checked_ranges(pinch, case), least)
+    return Answer((*flow_sheets(case, printed), *ranges), facts=(flow_facts(case, printed),),
                   headline=cut_told(cut, Shown(case.basis)) if cut else '', status=feasibility(cut is None))
 
 

@@ -1,9 +1,11 @@
 """The word `targets`."""
 from __future__ import annotations
 
+from ..analysis.range_sizes import checked_ranges
 from ..errors import about
 from ..program.run import Pinch
 from ..report.answer_sheets import targets_facts, targets_sheets
+from ..report.range_sheets import range_sheets
 from ..search.budget import Telling, nobody
 from .shared import CASE, SHOWN_IN, CaseShown, completed_case, rounding_told
 from .word import Answer, Files, Word
@@ -12,8 +14,10 @@ from .word import Answer, Files, Word
 def targets(files: Files, _: CaseShown = CaseShown(), tell: Telling = nobody) -> Answer:
     file = files.one('case')
     with about(case=file.name):
-        printed, case = Pinch().targets(file.content), completed_case(file.content)
-    return Answer(tuple(targets_sheets(case, printed)), facts=(targets_facts(case, printed),),
+        pinch = Pinch()
+        printed, case = pinch.targets(file.content), completed_case(file.content)
+        ranges = range_sheets(case, checked_ranges(pinch, case))
+    return Answer((*targets_sheets(case, printed), *ranges), facts=(targets_facts(case, printed),),
                   notes=rounding_told(file, case))
 
 

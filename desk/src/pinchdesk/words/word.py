@@ -9,6 +9,7 @@ from typing import Any, Generic, TypeVar
 from ..errors import INFEASIBLE, Status
 from ..formats.case import rounding_of, said_in_si
 from ..report.facts import FactRow
+from ..report.range_sheets import ranges_told
 from ..report.sheet import Sheet, rendered
 from ..search.budget import Telling
 from .forms import TABLE, Forms
@@ -152,12 +153,14 @@ class Word(Generic[Options]):
 
     def answer(self, files: Files, options: Options, tell: Telling) -> Answer:
         """What it answers; a case in units of its own is shown in °C and kW where the options say so. How far what the
-        table of a case rounded takes its targets is told beside all that is said of it."""
+        table of a case rounded takes its targets is told beside all that is said of it, and so are its utilities with a
+        range."""
         if getattr(options, 'units', '') == 'SI':
             files = files.each_of('case', said_in_si)
         answer = self.run(files, options, tell)
-        said = ((file.name, rounding_of(file.content)) for file in files.several('case'))
-        notes = [f'{name}: {rounding}' for name, rounding in said if rounding]
+        said = [(file.name, rounding_of(file.content)) for file in files.several('case')]
+        said += [(file.name, told) for file in files.several('case') for told in ranges_told(file.content)]
+        notes = [f'{name}: {told}' for name, told in said if told]
         return replace(answer, notes=(*answer.notes, *(note for note in notes if note not in answer.notes)))
 
 

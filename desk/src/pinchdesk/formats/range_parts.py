@@ -1,0 +1,65 @@
+"""Utilities with a range of temperature (`ranges`) as streams of a case: which they are, and with another size."""
+from __future__ import annotations
+
+from collections.abc import Sequence
+from dataclasses import dataclass, replace
+from fractions import Fraction
+
+from .amounts import rounded
+from .case import Case, Side, Stream, parts_of_streams
+from .limits import CP, LOAD
+from .ranges import RangedUtility
+
+
+def range_parts(case: Case, utility: RangedUtility) -> tuple[Stream, ...]:
+    """The streams of the program that a utility with a range is."""
+    return parts_of_streams(case)[utility.name]
+
+
+def range_names(case: Case) -> frozenset[str]:
+    """The names of all streams of the program that are utilities with a range, or segments of one."""
+    return frozenset(part.name for utility in case.basis.ranges for part in range_parts(case, utility))
+
+
+def cost_of_ranges(case: Case) -> int:
+    """What the utilities with a range cost, price times heat, which the costs of the program do not have in them."""
+    return sum(utility.price * heat_of_parts(range_parts(case, utility)) for utility in case.basis.ranges)
+
+
+def leading(parts: Sequence[Stream]) -> Stream:
+    """The segment whose CP counts the size of a utility: the largest one."""
+    return max(parts, key=lambda part: part.cp)
+
+
+def sized(parts: Sequence[Stream], cp: int) -> tuple[Stream, ...]:
+    """A utility with this CP of its largest segment, and with the others in proportion, rounded and never nothing."""
+    times = Fraction(cp, leading(parts).cp)
+    return tuple(replace(part, cp=max(1, rounded(part.cp * times)) if part.cp else 0,
+                         load=max(1, rounded(part.load * times)) if part.load else 0) for part in parts)
+
+
+def greatest_cp(parts: Sequence[Stream]) -> int:
+    """The greatest CP of the largest segment with which all segments are within the limits of the program."""
+    first = leading(parts)
+    return min(limit.most * first.cp // size
+               for part in parts for limit, size in ((CP, part.cp), (LOAD, part.load)) if size)
+
+
+def heat_of_parts(parts: Sequence[Stream]) -> int:
+    return sum(part.heat for part in parts)
+
+
+@dataclass(frozen=True)
+class UnsizedRange:
+    """A utility with a range whose size is not found yet: its segments in their proportions, its price, and between
+    what heats it may be."""
+
+    name: str
+    parts: tuple[Stream, ...]
+    price: int
+    least: int
+    most: int
+
+    @property
+    def side(self) -> Side:
+        return self.parts[0].side
