@@ -66,6 +66,10 @@ class CaseUnits:
         """A temperature of the case in tenths of °C."""
         return self.si.shown_temperature(number) * 10
 
+    def in_kelvins(self, number: int | Fraction) -> Fraction:
+        """A temperature of the case as an absolute one, in K."""
+        return self.in_tenths(number) / 10 + TEMPERATURES['K'][1]
+
     def in_tenths_between(self, number: int | Fraction) -> Fraction:
         """A difference of the case in tenths of a kelvin."""
         return self.si.shown_difference(number) * 10

@@ -86,6 +86,10 @@ class Shown:
         """A difference of temperatures with its unit beside it."""
         return f'{self.difference(difference)} {self.units.difference}'
 
+    def with_its_unit(self, temperature: Number) -> str:
+        """A temperature with its unit beside it."""
+        return f'{self.temperature(temperature)} {self.units.temperature}'
+
     def least_difference(self, contribution: int) -> str:
         """The least difference of a contribution, with its unit."""
         return self.with_degrees(2 * contribution)

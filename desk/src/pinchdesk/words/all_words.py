@@ -14,8 +14,9 @@ PLACES = {
     'audit': 'audit_word.AUDIT', 'sweep': 'sweep_word.SWEEP', 'prices': 'prices_word.PRICES',
     'site': 'site_word.SITE_OF_PLANTS', 'table': 'table_word.TABLE_OF_EXCHANGERS', 'units': 'units_word.UNITS',
     'rest': 'rest_word.REST', 'whatif': 'whatif_word.WHATIF', 'cost': 'cost_word.COST',
-    'supertarget': 'supertarget_word.SUPERTARGET', 'network': 'network_word.NETWORK_OF_FEW',
-    'tradeoff': 'tradeoff_word.TRADEOFF', 'draw': 'draw_word.DRAW', 'page': 'page_word.PAGE_OF_REVIEW',
+    'supertarget': 'supertarget_word.SUPERTARGET', 'utilities': 'utilities_word.UTILITIES',
+    'network': 'network_word.NETWORK_OF_FEW', 'tradeoff': 'tradeoff_word.TRADEOFF',
+    'draw': 'draw_word.DRAW', 'page': 'page_word.PAGE_OF_REVIEW',
 }
 
 

@@ -1,0 +1,145 @@
+"""The word `utilities`."""
+from __future__ import annotations
+
+import re
+from dataclasses import dataclass
+from fractions import Fraction
+
+from ..analysis.flue_gas import FlueGas
+from ..analysis.heat_pump import HeatPump
+from ..analysis.steam_turbine import Inlet, Turbines
+from ..analysis.utility_targets import UtilitiesAsked, utility_targets
+from ..errors import WordsError, about
+from ..formats.amounts import shortened
+from ..formats.case import Case
+from ..formats.case_units import CaseUnits
+from ..formats.shown import Shown
+from ..program.answers import Cut
+from ..program.run import Pinch
+from ..report.answer_sheets import cut_table
+from ..report.utility_sheets import pump_told, utilities_facts, utilities_sheets
+from ..search.budget import Telling, nobody
+from ..tables.steam import pressure_of
+from ..tables.temperature_words import difference_said, efficiency_said, numeral_said, temperature_said
+from .shared import CASE, SHOWN_IN, CaseShown, completed_case
+from .word import Answer, Files, Option, Word, feasibility
+
+AMBIENT = '25 °C'
+PRESSURE = re.compile(r'(?P<pressure>[0-9.,]+\s*[A-Za-z]+\s*(?:\([ag]\))?)\s+(?P<temperature>\S.*)')
+DECLARED = (
+    Option('flame', 'a flue gas with this theoretical flame temperature, in °C or with its unit', ('--flame',),
+           metavar='T'),
+    Option('stack', 'the temperature below which the flue gas must not be cooled', ('--stack',), metavar='T'),
+    Option('flue_contribution', 'the contribution of the flue gas in K or with its unit (that of the case unless '
+           'given)', ('--flue-contribution',), metavar='D'),
+    Option('ambient', f'the temperature of the surroundings ({AMBIENT} unless given)', ('--ambient',), metavar='T'),
+    Option('pump_from', 'a heat pump that evaporates at this temperature', ('--pump-from',), metavar='T'),
+    Option('pump_to', 'and condenses at this one', ('--pump-to',), metavar='T'),
+    Option('pump_efficiency', 'the part of the performance by Carnot that it reaches, as 0.5', ('--pump-efficiency',),
+           metavar='E'),
+    Option('refrigeration', 'the work of the cold utilities below the surroundings, by Carnot with this efficiency',
+           ('--refrigeration',), metavar='E'),
+    Option('isentropic', 'the work of steam turbines with this isentropic efficiency, by steam tables',
+           ('--isentropic',), metavar='E', one_of='turbines'),
+    Option('exergetic', 'the same by Carnot with this exergetic efficiency', ('--exergetic',), metavar='E',
+           one_of='turbines'),
+    Option('mains', 'which heaters are steam mains (all unless given)', ('--mains',), metavar='HP,LP'),
+    Option('inlet', 'the steam before the turbines, as "100 bar 500 °C", or its temperature where it is saturated '
+           '(that of the hottest main unless given)', ('--inlet',), metavar='STEAM'),
+    SHOWN_IN)
+
+
+@dataclass(frozen=True)
+class UtilitiesOptions(CaseShown):
+    """A flue gas, a heat pump, refrigeration, steam turbines: what is asked, as words have it."""
+
+    flame: str | None = None
+    stack: str | None = None
+    flue_contribution: str | None = None
+    ambient: str | None = None
+    pump_from: str | None = None
+    pump_to: str | None = None
+    pump_efficiency: str | None = None
+    refrigeration: str | None = None
+    isentropic: str | None = None
+    exergetic: str | None = None
+    mains: str | None = None
+    inlet: str | None = None
+
+    def asked(self, case: Case) -> UtilitiesAsked:
+        """What is asked of a case; `WordsError` where a number is none, or one is missing that belongs to others."""
+        units, contribution = Shown(case.basis).units, Fraction(case.contribution)
+        ambient = units.of_tenths(Fraction(250)) if self.ambient is None else \
+            temperature_said(self.ambient, '--ambient', units)
+        cold = None if self.refrigeration is None else efficiency_said(self.refrigeration, '--refrigeration')
+        return UtilitiesAsked(ambient, self.flue_of(units, ambient, contribution), self.pump_of(units, contribution),
+                              cold, self.turbines_of(units))
+
+    def flue_of(self, units: CaseUnits, ambient: Fraction, contribution: Fraction) -> FlueGas | None:
+        if self.flame is None or self.stack is None:
+            together({'--flame': self.flame, '--stack': self.stack}, {'--flue-contribution': self.flue_contribution})
+            return None
+        own = self.flue_contribution
+        share = contribution if own is None else difference_said(own, '--flue-contribution', units)
+        flame, stack = temperature_said(self.flame, '--flame', units), temperature_said(self.stack, '--stack', units)
+        return FlueGas(flame, stack, ambient, share)
+
+    def pump_of(self, units: CaseUnits, contribution: Fraction) -> HeatPump | None:
+        low, high, efficiency = self.pump_from, self.pump_to, self.pump_efficiency
+        if low is None or high is None or efficiency is None:
+            together({'--pump-from': low, '--pump-to': high, '--pump-efficiency': efficiency})
+            return None
+        return HeatPump(temperature_said(low, '--pump-from', units), temperature_said(high, '--pump-to', units),
+                        efficiency_said(efficiency, '--pump-efficiency'), contribution)
+
+    def turbines_of(self, units: CaseUnits) -> Turbines | None:
+        if self.isentropic is not None and self.exergetic is not None:
+            raise WordsError('turbines have an isentropic or an exergetic efficiency, not both')
+        said, flag = (self.isentropic, '--isentropic') if self.exergetic is None else (self.exergetic, '--exergetic')
+        if said is None:
+            together({'--isentropic or --exergetic': None}, {'--mains': self.mains, '--inlet': self.inlet})
+            return None
+        efficiency = efficiency_said(said, flag)
+        names = () if self.mains is None else tuple(name.strip() for name in self.mains.split(','))
+        inlet = None if self.inlet is None else inlet_said(self.inlet, units)
+        if inlet and inlet.pressure is not None and self.exergetic is not None:
+            raise WordsError(f'--inlet {shortened(self.inlet or "")}: with --exergetic it is a temperature alone')
+        return Turbines(names, inlet, None if self.exergetic else efficiency, efficiency if self.exergetic else None)
+
+
+def together(needed: dict[str, str | None], more: dict[str, str | None] | None = None) -> None:
+    """`WordsError` where only some of the options are given that belong together, or more that need them."""
+    given = [flag for flag, said in {**needed, **(more or {})}.items() if said is not None]
+    missing = [flag for flag, said in needed.items() if said is None]
+    if given and missing:
+        raise WordsError(f'{given[0]} needs {" and ".join(missing)} too')
+
+
+def inlet_said(text: str, units: CaseUnits) -> Inlet:
+    """The steam before the turbines: a pressure and a temperature, or the temperature of saturated steam."""
+    match = PRESSURE.fullmatch(text.strip())
+    if not match:
+        return Inlet(temperature_said(text, '--inlet', units))
+    value, unit = numeral_said(match['pressure'], '--inlet', 'a pressure, as "40 bar",')
+    pressure = pressure_of(value, unit)
+    if pressure is None:
+        raise WordsError(f'--inlet {shortened(text)}: `{shortened(unit)}` is not a unit of pressures')
+    return Inlet(temperature_said(match['temperature'], '--inlet', units), pressure)
+
+
+def utilities(files: Files, options: UtilitiesOptions = UtilitiesOptions(), tell: Telling = nobody) -> Answer:
+    file = files.one('case')
+    with about(case=file.name):
+        pinch = Pinch()
+        pinch.targets(file.content)
+        case = completed_case(file.content)
+        found = utility_targets(file.content, options.asked(case), pinch)
+    if isinstance(found, Cut):
+        table = cut_table(found, Shown(case.basis))
+        return Answer((table.sheet(),), facts=table.rows, status=feasibility(False))
+    return Answer(tuple(utilities_sheets(found)), facts=(utilities_facts(found),), headline=pump_told(found))
+
+
+UTILITIES = Word('utilities', 'flue gas, heat pump, refrigeration and steam turbines beside the grand composite curve',
+                 'pinchdesk utilities examples/four-stream.csv --flame 1800 --stack 160', (CASE,), UtilitiesOptions,
+                 utilities, DECLARED)

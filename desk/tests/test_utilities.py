@@ -1,0 +1,311 @@
+"""The word `utilities`: numbers worked by hand and published ones; the program agrees that what is exact is neither
+more nor less; and what is no flue gas, heat pump or steam is refused."""
+from __future__ import annotations
+
+from dataclasses import replace
+from decimal import Decimal
+from fractions import Fraction
+from math import ceil, floor
+from pathlib import Path
+
+import pytest
+from conftest import example, pinchdesk
+from hypothesis import assume, given
+from hypothesis import strategies as some
+
+from pinchdesk import Case, Pinch, Side, Stream, WordsError, print_case
+from pinchdesk.analysis.flue_gas import FlueGas, furnace
+from pinchdesk.analysis.grand_curve import GrandCurve
+from pinchdesk.analysis.heat_pump import HeatPump, pumped_heat
+from pinchdesk.errors import Status
+from pinchdesk.formats.shown import Shown
+from pinchdesk.program.answers import Point
+from pinchdesk.report.sheet import Cell
+from pinchdesk.words.utilities_word import UtilitiesOptions, utilities
+from pinchdesk.words.word import Answer, Files, TextFile
+
+FOUR = example('four-stream.csv')
+COLD = b"""contribution,,50,,,,
+hot,gas,300,-500,100,,
+cold,feed,-300,100,50,,
+heater,S,1500,0,1000000000000,1,
+cooler,CW,250,0,1000000000000,1,
+cooler,R1,-200,0,1000000000000,2,
+cooler,R2,-600,0,1000000000000,5,
+"""
+
+
+def files_of(content: bytes) -> Files:
+    return Files({'case': (TextFile('case.csv', content),)})
+
+
+def answered(content: bytes, **said: str) -> Answer:
+    return utilities(files_of(content), UtilitiesOptions(**said))
+
+
+def facts_of(content: bytes, **said: str) -> dict[str, Cell]:
+    return {fact.name: fact.value for fact in answered(content, **said).facts[0]}
+
+
+def refused(content: bytes, **said: str) -> str:
+    with pytest.raises(WordsError) as fault:
+        answered(content, **said)
+    return str(fault.value)
+
+
+def test_without_options_there_is_the_curve() -> None:
+    targets, curve = answered(FOUR).sheets
+    assert [row[1] for row in targets.rows] == [20, 60, 85]
+    assert curve.rows == ((165, 20), (145, 80), (140, Decimal('82.5')), (85, 0), (55, 75), (25, 60))
+    assert curve.headings == ('shifted °C', 'kW')
+
+
+def test_a_flue_gas_of_four_streams_by_hand() -> None:
+    """Down to the pinch, 90 °C of the flue gas, 20 kW are needed over 910 K; nothing above it needs a greater CP."""
+    facts = facts_of(FOUR, flame='1000', stack='80', ambient='20')
+    assert facts['flue gas CP'] == Decimal('0.022') and facts['flue gas touches the curve at, shifted'] == 85
+    assert facts['flue gas leaves at'] == 90
+    assert facts['fuel'] == Decimal('21.538') and facts['stack loss'] == Decimal('1.538')
+    assert facts['furnace efficiency'] == Decimal('92.86')
+    higher = facts_of(FOUR, flame='1000', stack='120', ambient='20')
+    assert higher['flue gas touches the curve at, shifted'] == 'the stack' and higher['flue gas leaves at'] == 120
+    assert higher['furnace efficiency'] == Decimal('89.8')
+
+
+def test_a_flue_gas_may_touch_the_curve_away_from_the_pinch() -> None:
+    """Down to 195 °C shifted these two reactors need 4.5 MW of 7.5; a flame of 260 °C has 60 K down to there."""
+    facts = facts_of(example('two-reactors.csv'), flame='400', stack='150', ambient='20')
+    assert facts['flue gas touches the curve at, shifted'] == 145
+    facts = facts_of(example('two-reactors.csv'), flame='260', stack='150', ambient='20')
+    assert facts['flue gas touches the curve at, shifted'] == 195 and facts['flue gas CP'] == 75
+    assert facts['flue gas leaves at'] == 160
+
+
+def test_a_published_furnace() -> None:
+    """Smith (2005), section 16.6, from memory: a flame of 1800 °C, a dew point of 160 °C that the pinch of the process
+    keeps the flue gas above, 25 K for the flue gas, 10 °C outside: 8.24 MW of fuel, 0.74 MW lost, 91 %."""
+    facts = facts_of(example('two-reactors.csv'), flame='1800', stack='160', ambient='10', flue_contribution='25')
+    assert (facts['fuel'], facts['stack loss']) == (Decimal('8236.196'), Decimal('736.196'))
+    assert facts['furnace efficiency'] == Decimal('91.06') and facts['flue gas leaves at'] == 170
+
+
+def test_a_heat_pump_of_four_streams_by_hand() -> None:
+    """From 70 to 95 °C shifted: 15/30 of 75 kW may be taken, 10/55 of 82.5 kW be replaced. By Carnot 373.15/35 is
+    10.661, half of it 5.331, and 15 kW need 15/5.331 = 2.814 kW."""
+    facts = facts_of(FOUR, pump_from='65', pump_to='100', pump_efficiency='0.5')
+    assert facts['pump evaporates at, shifted'] == 70 and facts['heat that can be taken there'] == Decimal('37.5')
+    assert facts['pump condenses at, shifted'] == 95 and facts['hot utility that it can replace there'] == 15
+    assert facts['pump performance, estimate'] == Decimal('5.331')
+    assert facts['pump work, estimate'] == Decimal('2.814') and facts['saved hot utility, estimate'] == 15
+    assert facts['saved cold utility, estimate'] == Decimal('12.186')
+
+
+@pytest.mark.parametrize('low, high', [('95', '120'), ('40', '80'), ('80', '120'), ('40', '90')])
+def test_a_heat_pump_that_does_not_cross_the_pinch_saves_nothing(low: str, high: str) -> None:
+    answer = answered(FOUR, pump_from=low, pump_to=high, pump_efficiency='60 %')
+    facts = {fact.name: fact.value for fact in answer.facts[0]}
+    assert facts['saved hot utility, estimate'] == facts['saved cold utility, estimate'] == 0
+    assert answer.headline == 'the heat pump does not work across the pinch at 85 °C shifted, so it saves nothing'
+    assert answer.headline in str(answer.content('text'))
+
+
+def test_refrigeration_by_hand() -> None:
+    """R1 takes what lies above its level, R2 the rest: of R2 233.15 ... 213.15 K, 85/213.15 of its heat over 0.6."""
+    answer = answered(COLD, refrigeration='0.6', ambient='25')
+    title, sheet = answer.sheets[2].title, answer.sheets[2]
+    assert title == 'Refrigeration below 25 °C, efficiency 0.6'
+    assert [row[0] for row in sheet.rows] == ['R1', 'R2']
+    for row, level in zip(sheet.rows, (Fraction('253.15'), Fraction('213.15'))):
+        ideal = Fraction(str(row[2])) * (Fraction('298.15') - level) / level
+        assert abs(Fraction(str(row[3])) - ideal) < Fraction(1, 1000)
+        assert abs(Fraction(str(row[4])) - ideal / Fraction(6, 10)) < Fraction(1, 500)
+        assert abs(Fraction(str(row[5])) - Fraction(str(row[2])) - Fraction(str(row[4]))) < Fraction(1, 500)
+    assert sum(Fraction(str(row[2])) for row in sheet.rows) > 0
+    none = answered(FOUR.replace(b'hot,H4', b'cooler,CW,250,0,1000000000000,1,\nhot,H4'), refrigeration='0.6')
+    assert none.sheets[2].title == 'No cold utility is below 25 °C'
+
+
+def test_turbines_by_the_factor_of_carnot_by_hand() -> None:
+    """From 170 to 91 °C the factor is 79/443.15; 0.7 of it, 0.12479, of what the steam gives: 1.5 kW are left of
+    1.7139 kW."""
+    sheet = answered(example('two-steam-levels.csv'), exergetic='0.7').sheets[2]
+    assert sheet.rows == (('HP', 170, Decimal('18.5'), 0), ('LP', 91, Decimal('1.5'), Decimal('0.214')))
+    alone = answered(example('two-steam-levels.csv'), exergetic='1', mains='LP', inlet='170')
+    ideal = Fraction(3, 2) * (Fraction('443.15') / Fraction('364.15') - 1)
+    assert abs(Fraction(str(alone.sheets[2].rows[0][3])) - ideal) < Fraction(1, 1000)
+
+
+def test_turbines_by_steam_tables() -> None:
+    """Steam of 100 bar and 500 °C has 3375.1 kJ/kg and 6.5995 kJ/(kg K) (steam tables, from memory); at 10 bar that
+    entropy has 2785 kJ/kg within a few."""
+    pytest.importorskip('iapws')
+    case = example('three-levels.csv')
+    mains = 'LP'
+    row, = answered(case, isentropic='0.8', mains=mains, inlet='100 bar 500 °C').sheets[2].rows
+    worked = Fraction(8, 10) * (Fraction('3375.1') - 2785)
+    ideal = 1500 * worked / (Fraction('3375.1') - worked - Fraction('763'))
+    assert abs(Fraction(str(row[3])) / ideal - 1) < Fraction(1, 100)
+    assert 'does not expand to HP' in refused(case, isentropic='0.8', inlet='20 bar 500 °C')
+    assert 'there is no steam of 100 bar and 300 °C' in refused(case, isentropic='0.8', inlet='100 bar 300 °C')
+
+
+def test_without_steam_tables_that_is_said(monkeypatch: pytest.MonkeyPatch) -> None:
+    monkeypatch.setitem(__import__('sys').modules, 'iapws', None)
+    assert refused(example('three-levels.csv'), isentropic='0.8') == \
+        '--isentropic needs the steam tables `iapws` (Debian: python3-iapws), which are not installed; --exergetic ' \
+        'needs none'
+
+
+PUMP = {'pump_from': '65', 'pump_to': '100', 'pump_efficiency': '0.5'}
+REFUSED = [
+    ({'flame': '1000'}, '--flame needs --stack too'),
+    ({'flue_contribution': '5'}, '--flue-contribution needs --flame and --stack too'),
+    ({'pump_from': '60', 'pump_to': '90'}, '--pump-from needs --pump-efficiency too'),
+    ({'mains': 'HP'}, '--mains needs --isentropic or --exergetic too'),
+    ({'flame': '100', 'stack': '120'}, 'the stack temperature 120 °C has to be below the flame temperature 100 °C'),
+    ({'flame': '1000', 'stack': '20', 'ambient': '30'}, 'the ambient temperature 30 °C is above the stack'),
+    ({'flame': '100', 'stack': '80'}, 'the flame temperature 100 °C is too low: the process needs heat at 95 °C'),
+    ({'flame': 'hot', 'stack': '80'}, '--flame hot: a temperature, in °C or with its unit, is needed'),
+    ({'flame': '1.000', 'stack': '80'}, '--flame 1.000: it may be 1 or 1000'),
+    ({'flame': '1000', 'stack': '-300'}, '--stack -300: no temperature is so low'),
+    ({'flame': '1000', 'stack': '80', 'flue_contribution': '-1'}, 'a difference is at least 0'),
+    (PUMP | {'pump_to': '60'}, 'and 65 °C is not below 60 °C'),
+    (PUMP | {'pump_efficiency': '0'}, '--pump-efficiency 0: an efficiency is above 0 and 1 at most'),
+    (PUMP | {'pump_efficiency': '1.1'}, 'an efficiency is above 0 and 1 at most, as 0.6 or "60 %"'),
+    (PUMP | {'pump_efficiency': '60'}, 'an efficiency is above 0 and 1 at most'),
+    (PUMP | {'pump_efficiency': '0.05'}, 'at an efficiency of 0.05 a heat pump from 65 °C to 100 °C gives no more'),
+    ({'refrigeration': '0.6', 'ambient': '50'}, 'the case has no cooler of its own, and COLD, which stands in'),
+    ({'exergetic': '0.7'}, 'the case has no heater of its own, so it has no steam main'),
+    ({'isentropic': '0.7', 'exergetic': '0.7'}, 'an isentropic or an exergetic efficiency, not both')]
+
+
+@pytest.mark.parametrize('said, told', REFUSED, ids=[told[:40] for _, told in REFUSED])
+def test_what_is_none_is_refused(said: dict[str, str], told: str) -> None:
+    assert told in refused(FOUR, **said)
+
+
+@pytest.mark.long
+def test_numbers_have_their_units() -> None:
+    own = b'#units,\xc2\xb0F,Btu/h,65941/225000,50/9,32,65941/225000\n' + FOUR
+    assert facts_of(own, flame='1832 °F', stack='80 °C', ambient='293.15 K')['furnace efficiency'] == Decimal('92.86')
+    assert '--flame 1832: it has no unit, and the case is in °F: say "1832 °F"' in refused(own, flame='1832', stack='8')
+    assert 'say "9 °F", or "10 K"' in refused(own, flame='1832 °F', stack='80 °C', flue_contribution='9')
+    assert '`kW` is not a unit of temperatures' in refused(FOUR, flame='1000 kW', stack='80')
+    case = example('two-steam-levels.csv')
+    assert 'it is a temperature alone' in refused(case, exergetic='0.7', inlet='40 bar 400')
+    assert '`mol` is not a unit of pressures' in refused(case, isentropic='0.7', inlet='40 mol 400')
+    assert '`kW` is not a unit of differences' in refused(FOUR, flame='1000', stack='80', flue_contribution='1 kW')
+
+
+def test_mains_that_are_none_are_refused() -> None:
+    case = example('two-steam-levels.csv')
+    assert 'the case has no heater MP: there are HP, LP' in refused(case, exergetic='0.7', mains='MP')
+    assert 'there is no main below HP, so no turbine' in refused(case, exergetic='0.7', mains='HP')
+    assert 'the inlet, 150 °C, is colder than HP' in refused(case, exergetic='0.7', inlet='150')
+    hotter = case.replace(b'HP,1700', b'HP,5000')
+    assert 'no saturated steam at the temperature of HP' in refused(hotter, exergetic='0.7')
+
+
+def test_without_a_pinch_there_is_nothing_to_pump_or_burn() -> None:
+    case = b'contribution,,50,,,,\nhot,H,1000,500,10,,\n'
+    assert refused(case, **PUMP) == 'the case needs no hot utility, so there is no pinch that a heat pump could cross'
+    assert refused(case, flame='1000', stack='80') == 'the case needs no hot utility, so it needs no flue gas'
+    cold = b'contribution,,50,,,,\ncold,C,500,1000,10,,\n'
+    assert 'needs no cold utility' in refused(cold, **PUMP)
+    assert facts_of(cold, flame='1000', stack='80', ambient='20')['flue gas leaves at'] == 80
+
+
+def test_without_a_heat_flow_there_is_its_cut() -> None:
+    case = COLD.replace(b'R2,-600,0,1000000000000', b'R2,-600,0,0')
+    assert answered(case, refrigeration='0.6').status == Status.NO
+    assert answered(case).status == Status.GOOD
+
+
+def test_the_command_writes_it_and_many_have_its_facts(tmp_path: Path) -> None:
+    (tmp_path / 'four.csv').write_bytes(FOUR)
+    (tmp_path / 'none.csv').write_bytes(b'contribution,,50,,,,\nhot,H,1000,500,10,,\n')
+    asked = ('--flame', '1000', '--stack', '80', '--form', 'csv')
+    done = pinchdesk('utilities', 'four.csv', *asked, cwd=tmp_path)
+    assert done.status == 0 and 'furnace efficiency,93.33,%' in done.out and 'ambient,25,°C' in done.out
+    many = pinchdesk('many', 'utilities', '.', *asked, cwd=tmp_path)
+    assert many.status == Status.FAILED and 'furnace efficiency %' in many.out
+    assert 'none.csv,failed,' in many.out and 'so it needs no flue gas' in many.out
+
+
+@some.composite
+def cases(draw: some.DrawFn) -> Case:
+    """A few streams of which some are latent."""
+    made: list[Stream] = []
+    for at in range(draw(some.integers(2, 5))):
+        side, low = draw(some.sampled_from(Side)), draw(some.integers(0, 300)) * 10
+        if draw(some.integers(0, 3)) == 0:
+            made.append(Stream(f'S{at}', side, low, low, 0, draw(some.integers(1, 10 ** 5)), draw(some.integers(0, 9))))
+            continue
+        high, share = low + draw(some.integers(1, 100)) * 10, draw(some.integers(0, 100))
+        ends = (high, low) if side is Side.HOT else (low, high)
+        made.append(Stream(f'S{at}', side, *ends, draw(some.integers(1, 200)), 0, share))
+    return Case(50, tuple(made))
+
+
+def curve_of(case: Case) -> GrandCurve:
+    return GrandCurve(Pinch().curves(print_case(case)).net)
+
+
+def with_streams(case: Case, *streams: Stream) -> Case:
+    return replace(case, streams=(*case.streams, *streams))
+
+
+def latent(side: Side, shifted: int, load: int) -> Stream:
+    return Stream('X', side, shifted, shifted, 0, load, 0)
+
+
+@given(cases(), some.integers(500, 20000), some.integers(0, 4000), some.integers(0, 300))
+def test_the_flue_gas_is_enough_and_less_is_not(case: Case, flame: int, stack: int, share: int) -> None:
+    curve = curve_of(case)
+    flue = FlueGas(Fraction(flame), Fraction(stack), Fraction(0), Fraction(share))
+    try:
+        found = furnace(curve, flue, Shown())
+    except WordsError:
+        return
+    needs = [(found.cp * (flame - share - max(corner.temperature, found.leaves - share)), curve.hot - corner.heat)
+             for corner in curve.corners if corner.temperature <= flame - share]
+    assert all(gives >= needed for gives, needed in needs)
+    assert found.leaves >= stack and found.fuel == curve.hot + found.loss
+    end = max(stack, curve.zero + share)
+    least = replace(latent(Side.HOT, 0, 0), supply=flame, target=end, contribution=share)
+    enough, less = ceil(found.cp), ceil(found.cp) - 1
+    assume(enough <= 100_000)
+    assert Pinch().targets(print_case(with_streams(case, replace(least, cp=enough)))).hot == 0
+    if less:
+        assert Pinch().targets(print_case(with_streams(case, replace(least, cp=less)))).hot > 0
+
+
+@given(cases(), some.integers(-50, 4200))
+def test_the_program_agrees_how_much_can_be_taken_and_replaced(case: Case, shifted: int) -> None:
+    curve, pinch = curve_of(case), Pinch()
+    for side, most in ((Side.COLD, floor(curve.taken_below(Fraction(shifted)))),
+                       (Side.HOT, floor(curve.replaced_above(Fraction(shifted))))):
+        for load in (most, most + 1):
+            if load:
+                targets = pinch.targets(print_case(with_streams(case, latent(side, shifted, load))))
+                kept = (targets.hot, curve.hot) if side is Side.COLD else (targets.cold, curve.cold)
+                assert (kept[0] == kept[1]) == (load == most)
+
+
+heats = some.integers(0, 1000)
+
+
+@given(some.lists(some.tuples(some.integers(-500, 500), heats), min_size=2, max_size=6, unique_by=lambda pair: pair[0]),
+       some.integers(-600, 600), some.integers(-600, 600), some.fractions(Fraction(1, 10), 1))
+def test_a_heat_pump_and_its_mirror(pairs: list[tuple[int, int]], low: int, high: int, part: Fraction) -> None:
+    """No more is saved than the curve leaves, and the curve upside down takes where the other one gives."""
+    curve = GrandCurve(tuple(Point(heat, level) for level, heat in sorted(pairs, reverse=True)))
+    mirrored = GrandCurve(tuple(Point(corner.heat, -corner.temperature) for corner in reversed(curve.corners)))
+    assert curve.taken_below(Fraction(low)) == mirrored.replaced_above(Fraction(-low))
+    try:
+        found = pumped_heat(curve, HeatPump(Fraction(low), Fraction(high), part, Fraction(0)), Shown())
+    except WordsError:
+        return
+    assert found.given <= found.replaced and found.taken <= found.available
+    assert found.given == found.taken + found.work and found.saves == (found.given > 0)
+    assert found.given in (found.replaced, found.available * found.performance / (found.performance - 1))
