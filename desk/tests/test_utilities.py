@@ -13,7 +13,7 @@ from conftest import example, pinchdesk
 from hypothesis import assume, given
 from hypothesis import strategies as some
 
-from pinchdesk import Case, Pinch, Side, Stream, WordsError, print_case
+from pinchdesk import Case, Pinch, Side, Stream, WordsError, print_case, read
 from pinchdesk.analysis.flue_gas import FlueGas, furnace
 from pinchdesk.analysis.grand_curve import GrandCurve
 from pinchdesk.analysis.heat_pump import HeatPump, pumped_heat
@@ -28,6 +28,7 @@ FOUR = example('four-stream.csv')
 COLD = b"""contribution,,50,,,,
 hot,gas,300,-500,100,,
 cold,feed,-300,100,50,,
+cold,product,400,900,20,,
 heater,S,1500,0,1000000000000,1,
 cooler,CW,250,0,1000000000000,1,
 cooler,R1,-200,0,1000000000000,2,
@@ -230,6 +231,19 @@ def test_the_command_writes_it_and_many_have_its_facts(tmp_path: Path) -> None:
     many = pinchdesk('many', 'utilities', '.', *asked, cwd=tmp_path)
     assert many.status == Status.FAILED and 'furnace efficiency %' in many.out
     assert 'none.csv,failed,' in many.out and 'so it needs no flue gas' in many.out
+
+
+def test_a_notebook_has_exact_numbers() -> None:
+    plant = read(FOUR, 'four.csv')
+    answer = plant.utilities(flame=1000, stack=80, ambient=20, pump_from=65, pump_to=100, pump_efficiency=0.5)
+    assert answer.furnace and answer.furnace.efficiency == Fraction(13, 14) and answer.leaves_c == 90
+    assert answer.pump and answer.pump.available_kw == Fraction(75, 2) and answer.saved_hot_kw == 15
+    assert answer.pump.work_kw == 15 / (Fraction('0.5') * Fraction('373.15') / 35)
+    assert answer.refrigeration_kw is None and 'Heat pump' in str(answer)
+    cold = read(COLD, 'cold.csv').utilities(refrigeration='60 %', exergetic=1, inlet=200)
+    assert cold.refrigeration_kw and cold.turbines_kw and cold.fuel_kw is None and cold.saved_hot_kw is None
+    short = read(COLD.replace(b'R2,-600,0,1000000000000', b'R2,-600,0,0'), 'short.csv').utilities(refrigeration=1)
+    assert short.found is None and 'No heat flow' in str(short)
 
 
 @some.composite

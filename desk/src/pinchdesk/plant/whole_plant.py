@@ -43,6 +43,7 @@ from .tradeoff_answer import PlantTradeoff, PlantUnits, PlantWhatIf, plant_trade
 if TYPE_CHECKING:
     from ..figures import ShownFigure
     from .cost_answers import PlantAreas, PlantCosts, PlantSupertarget
+    from .utility_answers import PlantUtilities
 
 Noted = TypeVar('Noted', bound=PlantAnswer)
 
@@ -190,6 +191,24 @@ class Plant:
         asked = asked_range(as_text(first), as_text(last), as_text(step), workers)
         with about(case=self.name):
             return plant_supertarget(supertarget(self.completed, *asked, self.pinch, workers))
+
+    def utilities(self, *, flame: Number | None = None, stack: Number | None = None,
+                  flue_contribution: Number | None = None, ambient: Number | None = None,
+                  pump_from: Number | None = None, pump_to: Number | None = None,
+                  pump_efficiency: Number | None = None, refrigeration: Number | None = None,
+                  isentropic: Number | None = None, exergetic: Number | None = None, mains: str | None = None,
+                  inlet: Number | None = None) -> PlantUtilities:
+        """What is asked of a flue gas, a heat pump, refrigeration and steam turbines beside the grand composite curve:
+        the options of the word `utilities`."""
+        from ..analysis.utility_targets import utility_targets
+        from ..words.utilities_word import UtilitiesOptions
+        from .utility_answers import plant_utilities
+        numbers = (flame, stack, flue_contribution, ambient, pump_from, pump_to, pump_efficiency, refrigeration,
+                   isentropic, exergetic, mains, inlet)
+        options = UtilitiesOptions(*(None if number is None else as_text(number) for number in numbers))
+        with about(case=self.name):
+            found = utility_targets(self.text.encode(), options.asked(self.completed), self.pinch)
+        return self.noted(plant_utilities(self.completed, found))
 
     def prices(self, study: FileGiven, workers: int = USUAL_WORKERS) -> PlantPrices:
         """The least cost at other prices, in the unit of the case's prices."""

@@ -13,6 +13,7 @@ from ..analysis.steam_turbine import Cogeneration, Inlet
 from ..analysis.utility_targets import UtilityTargets
 from ..formats.shown import Number, Shown, decimal
 from .answer_sheets import heat_of, targets_facts, temperature
+from .cost_sheets import notes_sheets
 from .facts import Fact, FactRow, FactTable, lines_sheet
 from .sheet import Cell, Sheet
 
@@ -125,7 +126,8 @@ def pump_told(found: UtilityTargets) -> str:
     return f'the heat pump does not work across the pinch at {told} shifted, so it saves nothing'
 
 
-def notes(found: UtilityTargets) -> Iterator[str]:
+def utilities_notes(found: UtilityTargets) -> Iterator[str]:
+    """What stands below the tables."""
     if pump_told(found):
         yield pump_told(found)
     if found.estimated:
@@ -149,6 +151,4 @@ def utilities_sheets(found: UtilityTargets) -> Iterator[Sheet]:
     if found.cogeneration:
         yield cogeneration_table(found.cogeneration, shown).sheet()
         yield lines_sheet('All mains', cogeneration_facts(found.cogeneration, shown))
-    told = tuple((note,) for note in notes(found))
-    if told:
-        yield Sheet('Notes', (), told)
+    yield from notes_sheets(tuple(utilities_notes(found)))
