@@ -12,7 +12,7 @@ from common import ROOT, Report, example, run
 from patience import written
 
 DOCUMENTS = ('README.md', 'docs/USER_GUIDE.md', 'docs/HOW_TO_ENTER.md', 'docs/NETWORK_BY_HAND.md',
-             'docs/ENERGY_TO_MONEY.md')
+             'docs/ENERGY_TO_MONEY.md', 'docs/UTILITIES.md')
 # Where the table of what a spreadsheet does stands.
 TABLE_OF_ROWS = 'docs/HOW_TO_ENTER.md'
 # These have their sentences compared by `docs` itself.
