@@ -3,6 +3,7 @@ from __future__ import annotations
 
 import pytest
 from plant_tables import BOOK, GERMAN, HYSYS, SHENOY, TABLES, Rows
+from simulator_tables import BIEGLER, HINT, REFUSED, SIDES, SIMULATORS
 from tabled import made, refusal, workbook
 
 from pinchdesk import Pinch
@@ -11,13 +12,41 @@ from pinchdesk.report.understood_sheet import understood_sheet
 from pinchdesk.tables.convert import Wanted, checked
 
 
-@pytest.mark.parametrize('name', TABLES)
+ALL_TABLES = TABLES | SIMULATORS
+
+
+@pytest.mark.parametrize('name', ALL_TABLES)
 def test_a_table_is_taken_at_the_first_try(name: str, pinch: Pinch) -> None:
-    table = TABLES[name]
+    table = ALL_TABLES[name]
     case = checked(made(table.content, Wanted(table.difference), 't'), pinch).case
     targets = pinch.targets(case)
     assert abs(targets.hot / 1000 - table.hot) <= table.off, targets
     assert abs(targets.cold / 1000 - table.cold) <= table.off, targets
+
+
+@pytest.mark.parametrize('name', REFUSED)
+def test_a_table_that_has_two_meanings_is_refused_with_what_to_write(name: str) -> None:
+    content, cause = REFUSED[name]
+    assert cause in refusal(content)
+
+
+def test_a_table_in_its_own_units_needs_no_scale() -> None:
+    large = BIEGLER.replace(';0.', ';1.')
+    assert '--scale 0.1 would do' in refusal(large, Wanted('20 K'))
+    assert made(large, Wanted('20 K', own_units=True)).case.basis.units is not None
+
+
+def test_the_contribution_of_each_stream_is_that_of_the_case() -> None:
+    case = made(HINT + 'Steam\t\t200\t200\t\t\t\t\n'.replace('Steam', 'Hot utility'), Wanted()).case
+    assert case.contribution == 50 and case.utilities[0].contribution == 50
+    two = refusal(HINT.replace('0.5\t5\n', '0.5\t8\n', 1), Wanted())
+    assert 'no contribution: give the least difference, as -d 10, which utilities have then' in two
+
+
+def test_duties_of_either_sign_are_taken_where_a_kind_says_the_same() -> None:
+    turned = SIDES.replace('-8.', '8.').replace('1.188', '-1.188').replace('6.48', '-6.48')
+    assert made(turned).case == made(SIDES).case
+    assert 'a hot stream runs the other way' in refusal(SIDES.replace('170.0;60.0', '60.0;170.0'))
 
 
 def test_utilities_are_what_their_titles_and_names_say() -> None:

@@ -2,13 +2,16 @@
 is taken, what has two is refused."""
 from __future__ import annotations
 
+import io
 from fractions import Fraction
 
+import openpyxl
 import pytest
 from conftest import EXAMPLES
 from hypothesis import given
 from hypothesis import strategies as some
-from tabled import TEN, made, refusal, streams, workbook
+from openpyxl.styles import Alignment
+from tabled import TEN, made, refusal, saved, streams, workbook
 
 from pinchdesk import Stream
 from pinchdesk.formats.case import print_case, read_case
@@ -231,3 +234,52 @@ def test_the_example_is_what_its_table_gives() -> None:
     case = read_case((EXAMPLES / 'crude-curve.csv').read_bytes())
     assert converted.case == case and case.basis.segments[0].name == 'CRUDE'
     assert TEN.tolerance == 0
+
+
+def of_crude(table: str | bytes) -> bool:
+    converted = made(table)
+    return sorted(streams(table)) == sorted([*CRUDE, KERO]) and converted.case.basis.segments == OF_CRUDE
+
+
+@pytest.mark.parametrize('rows', [
+    'Crude\n  Desalter;25;125;310\n  Preheat;125;220;365\n  Furnace;220;360;440\nKero;185;45;33\n',
+    'Crude\n;25;125;310\n;125;220;365\n;220;360;440\nKero;185;45;33\n',
+    'Crude;25;360;379.9\n  Desalter;25;125;310\n  Preheat;125;220;365\n  Furnace;220;360;440\nKero;185;45;33\n',
+    'Crude;25;360;379.9\n;25;125;310\n;125;220;365\n;220;360;440\nKero;185;45;33\n',
+    'Cold streams\n  Crude\n    Desalter;25;125;310\n    Preheat;125;220;365\n    Furnace;220;360;440\n'
+    'Hot streams\n  Kero;185;45;33\n'])
+def test_rows_that_are_indented_below_a_name_are_its_segments(rows: str) -> None:
+    assert of_crude(HEAD + rows)
+
+
+def test_a_workbook_indents_by_its_format() -> None:
+    names = ['Crude', 'Desalter', 'Preheat', 'Furnace', 'Kero']
+    numbers: list[list[object]] = [[], [25, 125, 310], [125, 220, 365], [220, 360, 440], [185, 45, 33]]
+    book = openpyxl.load_workbook(io.BytesIO(workbook([HEAD.strip().split(';')] + [
+        [name, *row] for name, row in zip(names, numbers)])))
+    assert not made(saved(book)).case.basis.segments
+    for row in (3, 4, 5):
+        book.active.cell(row, 1).alignment = Alignment(indent=1)
+    assert of_crude(saved(book))
+
+
+@pytest.mark.parametrize('rows', [
+    # Below the name of a unit, of hot or of cold streams, and where their ends do not meet.
+    'Unit 3\n  A;25;125;310\n  B;125;220;365\nKero;185;45;33\n',
+    'Cold streams\n  A;25;125;310\n  B;125;220;365\nHot streams\n  Kero;185;45;33\n',
+    'Preheat\n  A;25;125;310\n  B;120;220;365\nKero;185;45;33\n',
+    '  A;25;125;310\n  B;125;220;365\n  Kero;185;45;33\n'])
+def test_indented_rows_that_are_streams_of_their_own(rows: str) -> None:
+    assert sorted(name for _, name, *_ in streams(HEAD + rows)) == ['A', 'B', 'Kero']
+
+
+def test_what_a_whole_has_beside_its_heat_is_that_of_its_segments() -> None:
+    head = 'Stream;Supply (°C);Target (°C);Duty (kW);HTC (kW/m2 K);DTmin contrib. (K)\n'
+    case = made(head + 'Crude;25;220;65675;0.5;8\n;25;125;31000;;\n;125;220;34675;;\nKero;185;45;4620;;\n').case
+    assert [case.source(name).contribution for name in ('Crude-1', 'Crude-2', 'Kero')] == [80, 80, 50]
+    assert '#film,Crude-1,0.5,kW/m2 K,,,\n#film,Crude-2,0.5,kW/m2 K,,,\n' in print_case(case)
+
+
+def test_a_whole_of_another_heat_than_its_segments_is_refused() -> None:
+    rows = 'Crude;25;360;450\n;25;125;310\n;125;220;365\n;220;360;440\nKero;185;45;33\n'
+    assert '`Crude` as a whole has 150750 kW, and its segments below it have 127275 kW' in refusal(HEAD + rows)

@@ -13,7 +13,8 @@ from .headings import EMPTY
 from .layouts import Layout
 from .numbers import NoNumber, Numeral, Says, numeral_of, plain, readings
 from .spreadsheet import Cell, Table, TableRow
-from .units import Kind, UnknownUnit, names_fahrenheit, of_kilowatts, same_unit, unit_of
+from .two_ends import two_ends
+from .units import Kind, UnknownUnit, names_fahrenheit, of_kilowatts, open_unit, same_unit, unit_of
 
 EXAMPLES = {Kind.TEMPERATURE: '°C, K, °F', Kind.DIFFERENCE: 'K, °C, °F',
             Kind.FLOW: 'kW/K, MW/°C, W/K, kcal/h/K, Btu/(h °F)',
@@ -164,13 +165,18 @@ class CellReader:
         if number is None or column is None:
             return None
         value, slack, own = number
+        if own and not row.cell(column).unit and two_ends(row.cell(column).text):
+            self.told.fault(row.number, column, f'`{row.cell(column).text}`: two numbers in one cell: a column of both '
+                            'temperatures has the heading `T`, or `Tin -> Tout`; else each needs a column')
+            return None
         text = self.unit_text(row, column, kind, own)
         if text is None:
             return None
         try:
             unit = unit_of(text, kind)
         except UnknownUnit:
-            self.told.fault(row.number, column, f'the unit `{text}` is not known here: {EXAMPLES[kind]} and more are')
+            self.told.fault(row.number, column, open_unit(text) or f'the unit `{text}` is not known here: '
+                            f'{EXAMPLES[kind]} and more are')
             return None
         made = Entered(unit.exact(value), slack * unit.factor, written(row.cell(column), value, own, text))
         self.entered[row.number, column] = made

@@ -15,7 +15,7 @@ from .cells import Told
 from .headings import Words, is_note_column, is_number
 from .layouts import Layout
 from .rows import Body, Line, shortened
-from .spreadsheet import Table, TableRow
+from .spreadsheet import SHEET_ROWS, Table, TableRow
 from .unit_mentions import names_other_unit
 from .units import Kind, is_unit, same_unit
 from .vocabulary import Heading
@@ -26,15 +26,36 @@ CASE_FIELDS = 7
 
 def doubts_of(blocks: Blocks, lines: Sequence[Line], told: Told, settled: bool) -> None:
     """Tells each fault of the table's form; `settled` where the decimal mark was told."""
-    for layout in (block.layout for block in blocks.blocks):
-        for column in sorted(set(layout.columns.values())):
-            if told.table.hides(layout.head, column):
-                told.fault(layout.head, column, 'the column is hidden: show it, or take it out')
+    for block in blocks.blocks:
+        of_columns(block.layout, told)
     for line in lines:
-        if line.row.hidden:
-            told.fault(line.row.number, None, 'the row is hidden: show it, or take it out')
+        of_row(line, told)
         if line.layout.headed:
             beside(line, lines, told, settled)
+
+
+def of_columns(layout: Layout, told: Told) -> None:
+    """Columns that are hidden, and what is told of one that has both ends of each stream."""
+    for column in sorted(set(layout.columns.values())):
+        if told.table.hides(layout.head, column):
+            told.fault(layout.head, column, 'the column is hidden: show it, or take it out')
+    target = layout.columns.get(Heading.TARGET, -1)
+    if (layout.head // SHEET_ROWS, target) in told.table.inserted:
+        told.note(layout.head, target, 'the column has both ends of each stream: they are taken as supply and target')
+
+
+def of_row(line: Line, told: Told) -> None:
+    """A row that is hidden, and cells of it that may be something else."""
+    for doubt in told.table.doubts:
+        if doubt.row == line.row.number and not (doubt.by_kind and is_sided(line)):
+            told.fault(doubt.row, doubt.column, doubt.cause)
+    if line.row.hidden:
+        told.fault(line.row.number, None, 'the row is hidden: show it, or take it out')
+
+
+def is_sided(line: Line) -> bool:
+    """Whether a kind or a title says of a row whether it is hot or cold, or a utility."""
+    return bool(line.kind or line.section and line.section.side)
 
 
 def beside(line: Line, lines: Sequence[Line], told: Told, settled: bool) -> None:

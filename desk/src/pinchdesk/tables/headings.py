@@ -27,7 +27,7 @@ LONGEST = 200
 SIGN = re.compile(r'.*[(\[/,]\s*([^\w\s()\[\]/,.:;–—-]+)\s*[)\]]?\s*|.*?([%‰°€$£¥]+)\s*')
 # A sign of money belongs to the unit behind it: `Price €/MWh`.
 MONEY = re.compile('[€$£¥]')
-EMPTY = frozenset(('', '-', '–', '—', 'n/a', 'N/A', 'na', '.'))
+EMPTY = frozenset(('', '-', '–', '—', '--', '---', 'n/a', 'N/A', 'na', '.', '(var)', '(variable)', 'variable'))
 CLOSING = {')': '(', ']': '['}
 
 

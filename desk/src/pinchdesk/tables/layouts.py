@@ -8,10 +8,10 @@ from dataclasses import dataclass, field, replace
 
 from .headings import (EMPTY, KINDS, Words, bracketed, fits, has_unit, heading_of, is_comment, is_note_column,
                        is_number, splits, unknown_headings)
-from .sections import Section, kind_of, section_of
+from .sections import COLD, HOT, Section, kind_of, section_of
 from .spreadsheet import Table, TableRow
 from .units import Kind, is_multiple, is_unit
-from .vocabulary import OPEN_PAIRS, PAIRS, WARM, Heading, squeezed
+from .vocabulary import OPEN_PAIRS, PAIRS, WARM, Heading, squeezed, words
 
 # What the title over several columns is about.
 ABOUT = {Kind.TEMPERATURE: re.compile(r'temp|supply|target|inlet|outlet|\bT\b|°', re.I),
@@ -119,9 +119,19 @@ class Draft:
             else:
                 unit = ''
                 self.beside.append(Words(row.number, column, cell.text))
+            if unit and self.is_strange(column, unit):
+                # `Supply shift` over `°C` is no supply in the unit `shift`.
+                del self.headings[column], self.units[column]
+                continue
             if unit and self.units.setdefault(column, unit) != unit:
                 cause = f'two units, `{self.units[column]}` above and `{unit}` here'
                 raise self.table.refusal(row.number, column, cause)
+
+    def is_strange(self, column: int, unit: str) -> bool:
+        """Whether what stands behind a heading is no unit of it, and a unit of it stands below."""
+        heading = self.headings.get(column)
+        above = self.units.get(column, '')
+        return heading is not None and above != '' and not fits(heading, above) and fits(heading, unit)
 
     def layout(self, rows: Sequence[TableRow]) -> Layout:
         """The layout of this head over these rows; `Refused` where a column that is needed is missing, or stands
@@ -232,6 +242,13 @@ class Draft:
             columns = [column for column in columns if test(column)] or columns
         return columns
 
+    def check_pairs(self, unknown: Sequence[tuple[int, str]]) -> None:
+        """`Refused` where headings that are not known speak of a hot and of a cold side."""
+        hot, cold = ([column for column, title in unknown if side & set(words(title))] for side in (HOT, COLD))
+        if hot and cold:
+            raise self.table.refusal(self.row.number, hot[0], 'a row has a hot and a cold stream, as those of an '
+                                     'exchanger: give each stream a row of its own, with its own duty')
+
     def check(self, columns: Mapping[Heading, int]) -> None:
         """`Refused` where a column is missing, with the headings that are not known."""
         missing = [heading for heading in (Heading.NAME, Heading.SUPPLY) if heading not in columns]
@@ -240,9 +257,11 @@ class Draft:
         unknown = [(column, title) for column, title in self.titles.items()
                    if column not in columns.values() and column not in self.headings and not is_note_column(title)]
         open_end = Heading.TARGET not in columns and not self.is_curve(range(max(self.titles, default=0) + 1))
+        if missing:
+            self.check_pairs(unknown)
         if unknown and (missing or sized and open_end or not sized and not utilities):
-            words = ', '.join(heading.name.lower() for heading in list(Heading)[:10])
-            raise unknown_headings(self.table, self.row, unknown, f'{words} are, and others are passed over where '
+            names = ', '.join(heading.name.lower() for heading in list(Heading)[:10])
+            raise unknown_headings(self.table, self.row, unknown, f'{names} are, and others are passed over where '
                                    'these are enough')
         if missing:
             names = ' and none '.join(heading.name.lower() for heading in missing)

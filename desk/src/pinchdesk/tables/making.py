@@ -201,15 +201,29 @@ class Maker:
             self.told.note(said.row, said.column, f'the least difference is taken, {said.text}')
             difference = said.text
         if difference is None:
-            cause = 'no contribution: give the least difference, as -d 10'
-            self.told.faults.append(Refused(3, '', 'no contribution', cause))
-            return 0, Fraction(0), 0
+            return self.common_contribution()
         if self.reader.fahrenheit and is_bare(difference):
             cause = f'the least difference {difference} has no unit, and the table has degrees Fahrenheit: say ' \
                     f'-d "{difference} °F", or in kelvins as -d "10 K"'
             self.told.faults.append(Refused(3, '', 'no unit', cause))
             return 0, Fraction(0), 0
         return *half(difference, self.told), said.row if said else 0
+
+    def common_contribution(self) -> tuple[int, Fraction, int]:
+        """The contribution that each stream of the table has, which is then that of the case; a fault where they have
+        none, or several."""
+        own = {share for _, _, share in self.streams}
+        exact = {self.entries.own_share(line) for line, _ in self.stream_lines}
+        share, exact_share = next(iter(own), None), next(iter(exact), None)
+        if len(own) == len(exact) == 1 and share is not None and exact_share is not None:
+            row, line = self.streams[0][0], self.stream_lines[0][0]
+            self.told.note(row, line.at(Heading.CONTRIBUTION), f'each stream has the contribution '
+                           f'{Kind.DIFFERENCE.shown(share)}: it is that of the case too')
+            return share, exact_share, row
+        beside = ', which utilities have then' if own and None not in own else ''
+        cause = f'no contribution: give the least difference, as -d 10{beside}'
+        self.told.faults.append(Refused(3, '', 'no contribution', cause))
+        return 0, Fraction(0), 0
 
     def with_prices(self, share: int) -> tuple[list[Utility], Basis]:
         """The utilities with whole prices, and the basis that turns them back."""

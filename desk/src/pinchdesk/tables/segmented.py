@@ -1,9 +1,11 @@
-"""Streams of several segments in a table: a name that stands in several rows, or rows without a name below one that has
-one, where the ends of these rows meet. Each row becomes a stream of the case, `CRUDE-1`, `CRUDE-2`, and so on."""
+"""Streams of several segments in a table: a name that stands in several rows, or rows below one that has a name,
+without names, indented, or called segments, where the ends of these rows meet. Each row becomes a stream of the case,
+`CRUDE-1`, `CRUDE-2`, and so on."""
 from __future__ import annotations
 
 import re
-from collections.abc import Mapping, Sequence
+from collections.abc import Iterator, Mapping, Sequence
+from contextlib import suppress
 from dataclasses import dataclass, replace
 from fractions import Fraction
 from itertools import count, groupby
@@ -15,12 +17,20 @@ from .rows import Body, Line
 from .sections import section_of
 from .spreadsheet import Cell, TableRow
 from .units import Kind, UnknownUnit, unit_of
-from .vocabulary import Heading
+from .vocabulary import Heading, words
 
 
 # Names that say that a row is a part of the stream above it.
 PART = re.compile(r'(?:segment|seg\.?|part|parte|partie|teil|abschnitt|segmento|tramo|tron[cç]on|step)[\s.#:-]*'
                   r'(?:[0-9]{1,2}|[a-z]|[ivx]{1,4})', re.I)
+
+# What a stream has as a whole beside its heat.
+BESIDE = (Heading.CONTRIBUTION, Heading.FILM, Heading.OVERALL)
+# Titles of rows that are streams, and no segments of one.
+UNITS = frozenset('unit units plant section area train system process anlage abschnitt werk unite atelier planta '
+                  'unidad seccion impianto sezione unita'.split())
+# What a whole and its segments say of their heat may differ by this part.
+MOST_APART = Fraction(1, 100)
 
 
 @dataclass(frozen=True)
@@ -60,31 +70,100 @@ def with_segments(body: Body, reader: CellReader, told: Told) -> tuple[Body, tup
 
 
 def below_names(body: Body, reader: CellReader, told: Told) -> list[Line]:
-    """The lines, those that are called `segment 1`, `segment 2` and so on below a row with the name of their stream
-    with that name, where they meet. That row may have a name alone, or the ends of the whole too: then it is passed
-    over, since its heat is that of its segments."""
+    """The lines, those that are parts of the stream above them with its name, where they meet. The row above may have
+    a name alone, or the ends of the whole too: then it is passed over, since its heat is that of its segments."""
     titles = {passed.row: passed.text for passed in body.over if passed.why == 'a note'}
     numbers = [row.number for row in told.table.rows]
     above = dict(zip(numbers[1:], numbers))
     made: list[Line] = []
-    for is_part, group in groupby(body.lines, lambda line: line.is_stream and PART.fullmatch(line.name()) is not None):
-        lines = list(group)
+    for is_part, lines in part_runs(body.lines, told.table.rows):
         if not is_part or not are_met(lines, reader):
             made += lines
             continue
-        title = titles.get(above.get(lines[0].row.number, 0), '')
-        whole = made[-1] if made and above.get(lines[0].row.number) == made[-1].row.number else None
-        same = ends_met(whole, lines, reader) if whole and whole.is_stream else []
-        if whole and all(same) and same:
+        before = above.get(lines[0].row.number, 0)
+        whole = made[-1] if made and made[-1].is_stream and before == made[-1].row.number else None
+        same = ends_met(whole, lines, reader) if whole else [False]
+        if whole and all(same):
             made.pop()
-            title = whole.name()
-            told.note(whole.row.number, None, f'passed over, `{title}` as a whole: its segments stand below it')
+            made += [part_of(whole, line) for line in lines]
+            check_whole(whole, lines, reader, told)
         elif whole and any(same):
             told.fault(whole.row.number, None, f'`{whole.name()}` may be the whole of the rows below it, from '
                        f'`{lines[0].name()}` on, which do not go from its supply to its target: take it out, or give '
                        'them other names')
-        made += [named(line, title, None) for line in lines] if title and section_of(title) is None else lines
+        else:
+            title = titles.get(before, '')
+            made += [named(line, title, None) for line in lines] if names_stream(title, lines) else lines
     return made
+
+
+def part_runs(lines: Sequence[Line], rows: Sequence[TableRow]) -> Iterator[tuple[bool, list[Line]]]:
+    """The lines in runs, each with whether they are parts of what stands above it: called `segment 1` and so on,
+    without a name, or indented."""
+    above = {behind.number: before for before, behind in zip(rows, rows[1:])}
+    marked: list[tuple[bool, int, Line]] = []
+    base = 0
+    for line in lines:
+        before = above.get(line.row.number)
+        goes_on = bool(marked) and marked[-1][0] and before is marked[-1][2].row
+        if not goes_on and before:
+            base = next((cell.indent for _, cell in before.filled()), 0)
+        inner = not line.name() or PART.fullmatch(line.name()) or line.cell(Heading.NAME).indent > base
+        part = bool(line.is_stream and inner and not line.layout.curve)
+        run = marked[-1][1] if marked and marked[-1][0] == part and (goes_on or not part) else len(marked)
+        marked.append((part, run, line))
+    for (is_part, _), group in groupby(marked, lambda mark: mark[:2]):
+        yield is_part, [line for _, _, line in group]
+
+
+def names_stream(title: str, lines: Sequence[Line]) -> bool:
+    """Whether a title is the name of the stream whose segments stand below it. Rows with names of their own may be the
+    streams of a unit."""
+    own = any(line.name() and not PART.fullmatch(line.name()) for line in lines)
+    return bool(title) and section_of(title) is None and not (own and set(words(title)) & UNITS)
+
+
+def part_of(whole: Line, line: Line) -> Line:
+    """A segment with the name of its stream, and what that has beside its heat."""
+    cells = list(line.row.cells) + [Cell()] * (len(whole.row.cells) - len(line.row.cells))
+    for heading in BESIDE:
+        column = whole.at(heading)
+        if column is not None and whole.has(heading) and not line.has(heading):
+            cells[column] = whole.row.cell(column)
+    row = TableRow(line.row.number, tuple(cells), line.row.hidden)
+    return named(replace(line, row=row, kind=line.kind or whole.kind), whole.name(), None)
+
+
+def check_whole(whole: Line, lines: Sequence[Line], reader: CellReader, told: Told) -> None:
+    """Tells that a row is passed over as the whole of its segments; a fault where it has another heat than they."""
+    said, parts = heat(whole, reader), [heat(line, reader) for line in lines]
+    made = sum((part for part in parts if part is not None), Fraction(0))
+    if said is not None and None not in parts and abs(said - made) > MOST_APART * made:
+        told.fault(whole.row.number, None, f'`{whole.name()}` as a whole has {Kind.HEAT.shown(said)}, and its segments '
+                   f'below it have {Kind.HEAT.shown(made)}')
+        return
+    told.note(whole.row.number, None, f'passed over, `{whole.name()}` as a whole: its segments stand below it')
+
+
+def heat(line: Line, reader: CellReader) -> Fraction | None:
+    """The heat of a row in W by its duty, or its CP; None where it has none, of which nothing is told here."""
+    duty = size(line, Heading.LOAD, Kind.HEAT, reader)
+    if duty is not None:
+        return duty
+    flow = size(line, Heading.CP, Kind.FLOW, reader)
+    supply, target = (temperature(line, heading, reader) for heading in (Heading.SUPPLY, Heading.TARGET))
+    return None if flow is None or supply is None or target is None else flow * abs(target - supply)
+
+
+def size(line: Line, heading: Heading, kind: Kind, reader: CellReader) -> Fraction | None:
+    """A duty or a CP of a row without its sign; None where it is none."""
+    column = line.at(heading)
+    number = reader.quiet(line.row, column) if line.has(heading) else None
+    if number is None or column is None:
+        return None
+    with suppress(UnknownUnit):
+        return abs(unit_of(reader.unit_beside(line.row, column) or kind.default, kind).exact(number))
+    return None
 
 
 def are_met(lines: Sequence[Line], reader: CellReader) -> bool:

@@ -13,6 +13,7 @@ from .headings import is_number
 from .layouts import SIZES
 from .numbers import NoNumber, numeral_of
 from .spreadsheet import Cell, Table, TableRow, joined_sheets, workbook_tables
+from .two_ends import with_two_ends
 from .vocabulary import Heading
 
 
@@ -63,7 +64,7 @@ def are_parts(streams: Sequence[SheetSummary]) -> bool:
 
 
 def summary_of(table: Table) -> SheetSummary:
-    bands = [band for band in bands_of(table, list(table.rows))
+    bands = [band for band in bands_of(table, list(with_two_ends(table).rows))
              if any(is_block(band.draft, group) for group in groups_of(band))]
     curves = [band for band in bands if any(band.draft.is_curve(group) for group in groups_of(band))]
     streams = [band for band in bands if has_sizes(band) and not any(band is curve for curve in curves)]

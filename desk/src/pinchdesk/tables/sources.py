@@ -23,6 +23,8 @@ from .vocabulary import Heading, squeezed
 # Headings of a CP that are said of a specific heat too.
 SPECIFIC_TOO = frozenset(('cp', 'heatcapacity', 'thermalcapacity', 'capacitethermique', 'capacidadcalorifica',
                           'capacitatermica', 'capacitecalorifique'))
+# How headings of a change begin, which is below 0 of a stream that gives heat: `ΔH`, `delta H`.
+CHANGES = frozenset(('dh', 'de', 'dq'))
 # What marks a row as left out elsewhere.
 LEFT_OUT = re.compile(r'//|--|~~|[%!;]|/\*|<!|rem\b', re.I)
 # A contribution that is that of the case, as simulators call it.
@@ -65,6 +67,11 @@ class Entries:
         if not self.given(line, Heading.CONTRIBUTION) or line.cell(Heading.CONTRIBUTION).text.lower() in USUAL:
             return None
         return self.limited(line, Heading.CONTRIBUTION, Kind.DIFFERENCE, CONTRIBUTION)
+
+    def own_share(self, line: Line) -> Fraction | None:
+        """The contribution of a row's own before it was rounded; None where it has none."""
+        entered = self.reader.entered.get((line.row.number, line.columns.get(Heading.CONTRIBUTION, -1)))
+        return entered.value if entered else None
 
     def limited(self, line: Line, heading: Heading, kind: Kind, limit: Limit) -> int | None:
         """A number of a row as a whole one of the program's unit; a fault where it is outside its limits."""
@@ -152,7 +159,8 @@ class Entries:
         if supply == target and not line.kind and line.section and line.section.side:
             return line.section.side
         if supply == target and not line.kind:
-            self.told.fault(row, None, 'supply and target are the same: a column `kind` has to say hot or cold')
+            self.told.fault(row, None, 'supply and target are the same: a column `kind` has to say hot or cold, or '
+                            'heater or cooler where it is a utility')
             return None
         runs = Side.HOT if supply > target else Side.COLD
         if line.kind and supply != target and runs.value != line.kind:
@@ -186,12 +194,22 @@ class Entries:
         """Tells a fault for each duty whose sign contradicts its temperatures: below 0 is what a hot stream gives, and
         then no hot one of the table is above 0."""
         signed = any(duty.value < 0 for _, _, duty in self.duties)
+        if signed and self.gives_above():
+            return
         for line, side, duty in self.duties:
             if signed and duty.value and (duty.value < 0) != (side is Side.HOT):
                 way = 'cools down' if side is Side.HOT else 'warms up'
                 sign = 'above' if duty.value > 0 else 'below'
                 what = f'the duty {duty.text} is {sign} 0, and the stream {way}: a duty below 0 is what a stream gives'
                 self.told.fault(line.row.number, line.at(Heading.LOAD), what)
+
+    def gives_above(self) -> bool:
+        """Whether all duties above 0 are what hot streams give, where a kind or a title says of each which it is."""
+        said = all(line.kind or line.section and line.section.side for line, _, _ in self.duties)
+        changes = any(squeezed(self.reader.headed(line.row.number, line.columns[Heading.LOAD])[1])[:2] in CHANGES
+                      for line, _, _ in self.duties)
+        return said and not changes and all((duty.value < 0) == (side is Side.COLD) for _, side, duty in self.duties
+                                            if duty.value)
 
     def flow(self, line: Line, span: int, side: Side | None) -> int | None:
         """The CP of a sensible stream in 10 W/K: that of its row, or its duty over its span."""

@@ -11,7 +11,7 @@ import math
 import re
 import warnings
 from collections.abc import Iterable, Iterator, Sequence
-from dataclasses import dataclass, replace
+from dataclasses import dataclass, field, replace
 from decimal import Decimal
 from typing import Any
 
@@ -29,20 +29,22 @@ SHEET_ROWS = 1_000_000
 HINT = re.compile(r'sep=(.)(\r\n|\r|\n)')
 # What a format writes as it is: in quotes, behind `\`, as a currency; then what it leaves room for, and conditions.
 LITERAL = re.compile(r'"([^"]*)"|\\(.)|\[\$([^\]-]*)[^\]]*\]|[_*].|\[[^\]]*\]')
+RULE = re.compile(r'[:+]?[-=_+]{2,}:?')
 THOUSANDTH = re.compile(r'[0#?],+(?![0#?,])')
 PLACE = re.compile('[0#?]|General')
 
 
 @dataclass(frozen=True)
 class Cell:
-    """A cell: its text, its number where the file has one as such, what is wrong with it, the unit of its format, and
-    the remark that a spreadsheet has at it."""
+    """A cell: its text, its number where the file has one as such, what is wrong with it, the unit of its format, the
+    remark that a spreadsheet has at it, and how far its text is indented, which tells no two cells apart."""
 
     text: str = ''
     number: Decimal | None = None
     fault: str = ''
     unit: str = ''
     remark: str = ''
+    indent: int = field(default=0, compare=False)
 
     @property
     def empty(self) -> bool:
@@ -68,12 +70,23 @@ class TableRow:
 
 
 @dataclass(frozen=True)
+class Doubt:
+    """A cell that may be something else than it is taken for, and why; `by_kind` where a kind beside it settles it."""
+
+    row: int
+    column: int
+    cause: str
+    by_kind: bool = False
+
+
+@dataclass(frozen=True)
 class Table:
     """The rows of a table that are not empty. `sheet` is the name of the sheet, and empty of a text, which has a
     `separator`; `merged` has the columns that a merged cell covers, by its row and its first column, `hidden` those
     that are not shown, each with the number of its sheet, `others` the sheets that are shown beside it. Of several
     sheets the rows of the second one are counted from `SHEET_ROWS` on, and so on; `more` has their names. Where it is
-    `turned` its rows are the columns of the file."""
+    `turned` its rows are the columns of the file. `inserted` are columns that the file has not, each with the number of
+    its sheet, whose cells stand in the column before; `doubts` what these leave open."""
 
     sheet: str
     rows: tuple[TableRow, ...]
@@ -84,6 +97,8 @@ class Table:
     more: tuple[str, ...] = ()
     first: bool = True
     turned: bool = False
+    inserted: frozenset[tuple[int, int]] = frozenset()
+    doubts: tuple[Doubt, ...] = ()
 
     def sheet_of(self, row: int) -> str:
         """The sheet on which a row stands."""
@@ -95,6 +110,8 @@ class Table:
 
     def place(self, row: int, column: int | None = None) -> str:
         """A place in words: `sheet Streams row 4 column C`."""
+        if column is not None:
+            column -= sum(sheet == row // SHEET_ROWS and at <= column for sheet, at in self.inserted)
         if self.turned:
             return self.turned_place(row, column)
         where = f'sheet {self.sheet_of(row)} row {row % SHEET_ROWS}' if self.sheet else f'row {row}'
@@ -182,18 +199,33 @@ def text_table(text: str, separator: str) -> Table:
             places += max(1, len(fields))
             if len(rows) >= MOST_ROWS or len(fields) > MOST_COLUMNS or places > MOST_FIELDS:
                 raise too_large()
-            if any(len(field) > MOST_SIGNS for field in fields):
+            if any(len(text) > MOST_SIGNS for text in fields):
                 raise too_large(f'row {at} is too long: ')
-            cells = tuple(Cell(clean(read_again(field))) if field else NOTHING for field in fields)
+            cells = tuple(text_cell(text) if text else NOTHING for text in fields)
             filled += sum(not cell.empty for cell in cells)
             if filled > MOST_CELLS:
                 raise too_large()
-            if any(not cell.empty for cell in cells):
+            if any(not cell.empty for cell in cells) and not is_rule(cells):
                 rows.append(TableRow(at, cells))
     except csv.Error as fault:
         place = f'row {at + 1}'
         raise Refused(3, place, 'quotes', f'{place}: the quotes of a field do not close ({fault})') from fault
     return Table('', tuple(rows), separator=separator)
+
+
+def text_cell(text: str) -> Cell:
+    return Cell(clean(read_again(text)), indent=indent_of(text))
+
+
+def is_rule(cells: Sequence[Cell]) -> bool:
+    """Whether a row is a line that is drawn below headings, as `---|---:`."""
+    texts = [cell.text for cell in cells if not cell.empty]
+    return all(RULE.fullmatch(text) for text in texts) and any(len(text) > 2 for text in texts)
+
+
+def indent_of(text: str) -> int:
+    """How many blanks stand before a text."""
+    return len(text) - len(text.lstrip())
 
 
 def moved(table: Table, rows: int) -> Table:
@@ -317,7 +349,10 @@ def cell_of(value: Any, written: Any) -> Cell:
         return Cell(str(content), fault='a date: the spreadsheet took the number for one')
     if isinstance(content, (int, float)):
         return numbered(content, value.number_format or '')
-    return Cell(clean(str(content))) if content is not None else Cell()
+    if content is None:
+        return Cell()
+    steps = int(value.alignment.indent) if value.alignment else 0
+    return Cell(clean(str(content)), indent=indent_of(str(content)) + steps)
 
 
 def numbered(stored: int | float, form: str) -> Cell:

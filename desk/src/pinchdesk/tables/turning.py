@@ -5,6 +5,7 @@ from dataclasses import replace
 
 from .headings import known
 from .spreadsheet import NOTHING, Table, TableRow
+from .two_ends import with_two_ends
 from .workbook_bounds import MOST_COLUMNS
 
 # So many headings in one column, and in no row so many, are those of a table that lies on its side.
@@ -17,16 +18,19 @@ def headings(table: Table) -> int:
 
 
 def upright(tables: tuple[Table, ...]) -> tuple[Table, ...]:
-    """The readings of a file; where none has rows of headings, and columns of them do, those turned."""
+    """The readings of a file, each end of a stream in a column of its own; where none has rows of headings, and columns
+    of them do, those turned."""
+    tables = tuple(map(with_two_ends, tables))
     if max(map(headings, tables)) >= FEWER:
         return tables
-    found = [turned(table) for table in tables if may_turn(table)]
+    found = [with_two_ends(turned(table)) for table in tables if may_turn(table)]
     return tuple(table for table in found if headings(table) >= HEADINGS) or tables
 
 
 def may_turn(table: Table) -> bool:
     """Whether a table is one sheet with all that is in it in sight, and short enough to be turned."""
-    plain = not table.more and not table.merged and not table.hidden and not any(row.hidden for row in table.rows)
+    bare = not (table.more or table.merged or table.hidden or table.inserted)
+    plain = bare and not any(row.hidden for row in table.rows)
     return plain and bool(table.rows) and table.rows[-1].number <= MOST_COLUMNS
 
 

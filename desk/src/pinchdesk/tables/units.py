@@ -63,7 +63,7 @@ DEGREES = re.compile(r'(?:\b(?:deg(?:ree)?s?|grad)\b\.?|\bdeg(?=[CFKR]\b)|°|\bo
 BEHIND = re.compile(r'(?<=[A-Za-z])\^?(-1)(?![0-9])')
 SQUARE = re.compile(r'\b(m|cm|ft)\^?([23])(?![0-9])')
 PRODUCT = re.compile(r'(?<=[A-Za-z0-9)])\s*[-.]\s*(?=[A-Za-z°(])')
-MILLIONS = re.compile(r'MM\s*(?=(?:btu|k?cal|kj|kw|w)\b)', re.I)
+MILLIONS = re.compile(r'MM\s*\*?\s*(?=(?:btuh?|k?cal|kj|kw|w)\b)', re.I)
 LETTER = re.compile(r'(?<![A-Za-z_°])([CF])(?![A-Za-z_])')
 NAMED = re.compile(r'\b(celsius|fahrenheit)\b', re.I)
 KELVIN = re.compile(r'\bkelvins?\b', re.I)
@@ -75,6 +75,8 @@ RAISED = re.compile('[⁰¹²³⁴-⁹]+')
 # `KW` can be nothing else; MBtu is a thousand of them to some and a million to others, and mW was meant to be MW.
 KILOWATT = re.compile(r'\b(?:KW|Kw|kw)(?![A-Za-z_])')
 OPEN = re.compile(r'\b(?:(?i:mbtu)|m(?:W|J|cal))')
+# PRO/II writes `M*KJ/HR`, others `MBtu/h` and `Mkcal/h`.
+EITHER = re.compile(r'M\s*\*?\s*(?=(?:[Bb][Tt][Uu]|[Kk][Cc][Aa][Ll]|[Kk][Jj]))|m(?=(?:W|J|cal))')
 # Who gives a heat per month does not say how many hours it is running.
 MONTH = re.compile(r'\b(?:months?|weeks?|fortnights?|quarters?|decades?|centur(?:y|ies))\b', re.I)
 YEAR = re.compile(r'(?<![A-Za-z_])(a|y|yr|years?|annum|anno)(?![A-Za-z_])', re.I)
@@ -167,6 +169,22 @@ def factor_of(plain: str, dimension: str) -> Fraction | None:
             # pint has no error of its own for each text that it cannot read.
             continue
     return None
+
+
+def open_unit(text: str) -> str:
+    """Why a unit is refused whose first letter may be one multiple or another, and what to write in its place; empty
+    where it is no such unit."""
+    match = EITHER.match(text.strip())
+    if match is None:
+        return ''
+    bare = text.strip()[match.end():]
+    if not any(is_unit(bare, kind) for kind in Kind):
+        return ''
+    if match[0].startswith('m'):
+        return f'the `m` of `{text}` is a thousandth, and may be meant as a million: write `M{bare}`, or the number '\
+               f'in {bare}'
+    return f'the `M` of `{text}` is a thousand in some programs and a million in others: write `10^3 {bare}` or ' \
+           f'`10^6 {bare}`'
 
 
 @lru_cache(maxsize=None)

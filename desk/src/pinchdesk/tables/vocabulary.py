@@ -17,15 +17,17 @@ class Heading(enum.Enum):
             'heizmedium kuhlmedium '
             'heizmittel kuhlmittel fluxchauds fluxfroids courantschauds courantsfroids utilitechaude utilitefroide '
             'corrientescalientes corrientesfrias correnticalde correntifredde heissestrome warmestrome kaltestrome '
-            'designation denominacion denominazione streamidentification')
-    NUMBER = 'no nr n num number id tag streamno streamnumber streamid numero nummer nro pos'
+            'designation denominacion denominazione streamidentification inletstream sigla kurzzeichen '
+            'kennzeichen')
+    NUMBER = 'no nr n num number id tag repere streamno streamnumber streamid numero nummer nro pos'
     SUPPLY = ('supply supplied ts tin in inlet level t temperature temp temperatur temperatura from start starting '
               'initial source entry entrance eintritt eintritts ein eingang eingangs anfang anfangs vorlauf zulauf '
               'entree '
               'initiale depart entrada inicial suministro ingresso iniziale entrata partenza niveau '
-              'starttemperatur niveltermico tein')
+              'starttemperatur niveltermico tein ent entr eintr anf ini iniz init sup')
     TARGET = ('target tt tout out outlet to end ending final exit austritt austritts aus ausgang ausgangs ende ziel '
-              'rucklauf ablauf sortie finale cible arrivee salida objetivo uscita obiettivo arrivo taus')
+              'rucklauf ablauf sortie finale cible arrivee salida objetivo uscita obiettivo arrivo taus austr fin sal '
+              'sort usc targ')
     CP = ('cp mcp fcp wcp mdotcp mxcp gcp heatcapacityflow heatcapacityflowrate heatcapacityrate heatcapacity flowcp '
           'warmekapazitatsstrom kapazitatsstrom warmekapazitatsflussstrom debitcalorifique capacitecalorifique '
           'debitdecapacitethermique capacitethermique debitdecapacite capacidadcalorifica capacidadtermica flujocp '
@@ -38,7 +40,7 @@ class Heading(enum.Enum):
             'enthalpyflow '
             'thermalload thermalduty thermalpower heatpower qdot flussotermico flujodecalor')
     CONTRIBUTION = ('contribution dtcont dtcontribution dtmin2 deltatmin2 deltatcont deltatcontribution dt2 '
-                    'dtmincontribution dtmincont')
+                    'dtmincontribution dtmincont dtmincontrib dtmincontr dtcontrib dtcontr')
     LEAST = 'least minimum min leastload minload leastheat minheat minimumload minduty'
     MOST = ('most maximum max mostload maxload mostheat maxheat maximumload maxduty available availability maxleistung '
             'maximalleistung verfugbar')
@@ -53,7 +55,8 @@ class Heading(enum.Enum):
             'debitmassique caudal caudalmasico portata portatamassica molarflow molarflowrate molflow')
     SPECIFIC = ('specificheat specificheatcapacity effectivecp masscp spezifischewarmekapazitat spezifischewarme '
                 'spezwarmekapazitat spezwarme chaleurspecifique chaleurmassique calorespecifico calorespecifico '
-                'capacidadcalorificaespecifica massheatcapacity meancp averagecp')
+                'capacidadcalorificaespecifica massheatcapacity meancp averagecp cs calorespec calorspec '
+                'capacitatermicaspecifica')
     LATENT = ('latentheat heatofvaporization heatofvaporisation heatofcondensation latent verdampfungsenthalpie '
               'verdampfungswarme kondensationsenthalpie kondensationswarme chaleurlatente calorlatente calorelatente '
               'enthalpyofvaporization enthalpyofvaporisation enthalpyofcondensation')
@@ -64,6 +67,8 @@ MEANINGS: dict[str, Heading] = {word: heading for heading in Heading for word in
 # Words that say nothing beside a heading: `Stream supply temperature`, `Température d'entrée`, `T in`.
 FILLING = frozenset('stream streams process of the de d di del della dell du des la le el il lo l der die das a value '
                     'strom stromes flux corriente corrente total'.split())
+# Headings that speak of another stream than that of the row, as simulators name what leaves an exchanger.
+OF_OTHERS = frozenset('outletstream outstream streamout productstream'.split())
 WARM = frozenset('t temp temperature temperatur temperatura temperatures'.split())
 WARMED = frozenset((Heading.SUPPLY, Heading.TARGET))
 # Symbols of one letter are a heading by their unit alone: `C (kW/K)`, `h (W/m2K)`, `H (kW)`.
@@ -104,7 +109,7 @@ def meaning(text: str) -> Heading | None:
     """What the words of a heading mean; None where they mean nothing, or two things."""
     parts = words(text)
     known = MEANINGS.get(''.join(parts))
-    if known or not parts or len(parts) > LONGEST_WORDS:
+    if known or not parts or len(parts) > LONGEST_WORDS or ''.join(parts) in OF_OTHERS:
         return known
     found = covering(tuple(parts)) - {None}
     return next(iter(found)) if len(found) == 1 else None
