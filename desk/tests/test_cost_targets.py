@@ -37,27 +37,6 @@ def test_the_small_case_is_as_it_was_worked_by_hand(pinch: Pinch) -> None:
     assert near(found.cost.whole, '13913')
 
 
-def test_two_reactors_as_in_smith_2005(pinch: Pinch) -> None:
-    """Chapter 17, from memory: 7,410 m², 3.985 million of capital, 1.051 million of it a year, 1.0 million of energy.
-    The CPs are in kW/K a thousandth of the book's MW/K, so that everything but the charges is a thousandth."""
-    streams = 'H1 250 40 150 1, H2 200 80 250 0.8, C1 20 180 200 0.6, C2 140 230 300 0.8'
-    case = costed_case(10, streams, 'S 240 239 120 3', 'CW 20 30 10 1',
-                       *law_rows('40000', '500', '1', 'recovery', '0.1', '5'))
-    found = targets(case, pinch)
-    assert near(found.area.area, '7410')
-    assert found.units == 7
-    assert near(found.cost.capital / 10 ** 6, '3.985')
-    assert near(found.cost.capital_a_year / 10 ** 6, '1.051')
-    assert found.cost.energy == 1_000_000
-
-
-def test_the_aromatics_plant_of_linnhoff_and_ahmad_1990(pinch: Pinch) -> None:
-    """Worked by a second program; what the paper has is not sure."""
-    found = targets(AROMATICS, pinch)
-    assert near(found.area.area, '16984')
-    assert found.units == 15
-
-
 def test_the_formula_is_no_bound_where_films_differ() -> None:
     """Four levels: vertical 22 m², and crossed 17.333."""
     case = costed_case(0, 'X 1 0 1', 'A 200 200 1 0.1, B 150 150 1 1', 'C 100 100 1 1, D 50 50 1 0.1')
@@ -78,14 +57,6 @@ def test_shells_are_those_that_were_worked_by_hand() -> None:
     assert near(shells_of(first, Fraction(9, 10)), '0.425')
     factor = correction(first, 1)
     assert factor and near(factor, '0.9685')
-
-
-def test_equal_flows_are_no_case_of_their_own() -> None:
-    """R = 1, P = 0.5: Bowman, Mueller and Nagle (1940) have 0.80."""
-    duty = Duty(EndTemperatures(Fraction(1000), Fraction(500)), EndTemperatures(Fraction(0), Fraction(500)))
-    assert near(shells_of(duty, Fraction(9, 10)), '0.897')
-    factor = correction(duty, 1)
-    assert factor and near(factor, '0.8023')
 
 
 def test_a_shell_that_cannot_do_its_duty_has_no_factor() -> None:
@@ -431,19 +402,6 @@ def at_heat(corners: Sequence[Corner], place: float) -> tuple[float, float]:
     at = next(at for at, corner in enumerate(corners) if corner[0] >= place)
     (begin, low, _), (end, high, film) = corners[at - 1], corners[at]
     return low + (place - begin) / (end - begin) * (high - low), film
-
-
-def test_shells_and_area_of_a_textbook_exchanger() -> None:
-    """Smith 2005, chapter 15, from memory: 3.5 MW from 300 to 100 °C into 60 to 200 °C at 100 W/m²K and X = 0.9 need
-    2.33 shells by W = 0.6748, so three. The rest by hand: R = 10/7, P = 7/12, LM 60/ln 2.5 = 65.481 K; (1-RP)/(1-P) is
-    0.4, its third root 0.736806, so p of one shell is 0.263194/0.691765 = 0.380467; s = 1.743790, LM(1-p, 1-Rp) =
-    0.533844, ln(1.739463/0.412554) = 1.438964, Ft = 0.663455/0.768182 = 0.8637, and 35,000/(65.481 Ft) is 618.9 m²."""
-    duty = Duty(EndTemperatures(Fraction(3000), Fraction(1000)), EndTemperatures(Fraction(600), Fraction(2000)))
-    shells = shells_of(duty, Fraction(9, 10))
-    assert near(shells, '2.33') and whole_shells(shells) == 3 and near(duty.mean, '65.481')
-    factor = correction(duty, 3)
-    assert factor and abs(factor.middle - Fraction('0.86365')) < Fraction(5, 10 ** 5)
-    assert near(35000 / (factor * duty.mean), '618.9')
 
 
 # Coefficients of pairs.
