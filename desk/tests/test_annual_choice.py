@@ -2,16 +2,20 @@
 from __future__ import annotations
 
 from decimal import Decimal
+from itertools import accumulate
 
 import pytest
-from costed import NETWORK, SMALL, near
+from costed import NETWORK, SMALL, costed_case, law_rows, near
 
 from pinchdesk import Pinch, Refused, completed, read_case, read_network
 from pinchdesk.program.verdicts import Accepted
-from pinchdesk.report.tradeoff_sheets import tradeoff_tables
+from pinchdesk.report.tradeoff_sheets import network_texts, tradeoff_tables
 from pinchdesk.search.accepted import AcceptedNetwork
 from pinchdesk.search.annual_choice import AnnualChooser, least_a_year
+from pinchdesk.search.budget import SearchWay
+from pinchdesk.search.find import find_network
 from pinchdesk.search.reduce.tradeoff import TradeOff, TradeOffRow
+from pinchdesk.search.visited import Visited, WatchedPinch
 from pinchdesk.words.network_word import NetworkOptions, network
 from pinchdesk.words.tradeoff_word import TradeoffOptions, tradeoff
 from pinchdesk.words.word import Files, TextFile
@@ -26,6 +30,41 @@ def accepted(pinch: Pinch, text: str, case: str = SMALL) -> AcceptedNetwork:
     verdict = pinch.audit(case, text)
     assert isinstance(verdict, Accepted), verdict.text
     return AcceptedNetwork(read_network(text), verdict)
+
+
+def test_names_make_no_other_network(pinch: Pinch) -> None:
+    renamed = NETWORK.replace(' E ', ' F ').replace(' a\n', ' a1\n').replace('pass a ', 'pass a1 ')
+    assert least_a_year(CASE, [accepted(pinch, NETWORK), accepted(pinch, renamed)]).among == 1
+
+
+def test_a_utility_that_comes_too_close_comes_last(pinch: Pinch) -> None:
+    """With its water up to 70 °C the whole network is cheaper still, but has 5 K in the place of 10."""
+    case = completed(read_case(SMALL.replace('#range,W,20,30', '#range,W,20,70')))
+    choice = least_a_year(case, [accepted(pinch, NETWORK)])
+    assert choice.told.endswith('; exchanger W1: at its hot end the difference is 5 K with the real ends of its '
+                                'utility, and 10 K are needed')
+
+
+def test_each_accepted_network_of_the_case_is_told(pinch: Pinch) -> None:
+    told: list[object] = []
+    watched = WatchedPinch(pinch.path, CASE, told.append)
+    for case, text in ((CASE, NETWORK), (read_case(SMALL), DIVIDED), (CASE, NETWORK.replace('50000', '40000'))):
+        watched.audit(case, text)
+    assert [message.found.network for message in told if isinstance(message, Visited)] == \
+        [read_network(NETWORK), read_network(DIVIDED)]
+
+
+# Four streams whose search has several networks of six exchangers.
+FOUR = costed_case(10, 'H1 377 97 10 1, H2 317 97 20 1, C1 137 377 15 1, C2 80 227 13 1', 'S 407 407 80 5',
+                   'W 27 47 15 1', *law_rows('5500', '150', '1', 'factor', '1'))
+
+
+@pytest.mark.usefixtures('searched_here')
+def test_networks_that_are_no_better_than_the_best_are_seen_too(pinch: Pinch) -> None:
+    seen: list[AcceptedNetwork] = []
+    find_network(FOUR, pinch=pinch, way=SearchWay(steps=8, workers=1), seen=seen.append)
+    ranks = [found.rank for found in seen]
+    assert any(rank > min(before) for rank, before in zip(ranks[1:], accumulate(([rank] for rank in ranks))))
 
 
 def files_of(case: str = SMALL) -> Files:
@@ -68,6 +107,16 @@ def test_rows_of_a_trade_off_have_areas_and_annual_costs(pinch: Pinch) -> None:
     assert table.headings[at - 1:at + 2] == ('area m²', 'annual cost $/a', 'gone') and table.marked == {2}
     assert [row[at] for row in table.rows] == [None, Decimal('16517.06'), Decimal('13672.89')]
     assert 'annual cost $/a' not in tradeoff_tables(bare(traded))[0].sheet().headings
+
+
+def test_a_network_that_is_no_step_has_a_row_and_a_text_of_its_own(pinch: Pinch) -> None:
+    divided, whole = accepted(pinch, DIVIDED), accepted(pinch, NETWORK)
+    traded = TradeOff(CASE, 3_500_000_000, divided, (TradeOffRow(divided),))
+    table = tradeoff_tables(traded, whole)[0].sheet()
+    assert [row[0] for row in table.rows] == ['floor', Decimal(4), '3, least a year'] and table.marked == {2}
+    texts = network_texts(traded, whole, 'of least annual cost')
+    assert list(texts) == ['4', 'annual'] and '\n# of least annual cost\n' in texts['annual']
+    assert read_network(texts['annual']) == whole.network and list(network_texts(traded)) == ['4']
 
 
 def bare(traded: TradeOff) -> TradeOff:

@@ -55,6 +55,15 @@ def test_the_least_difference_of_least_cost(plant: Plant) -> None:
     assert isinstance(found.figure().figure, Figure) and len(found.found.points) == 4
 
 
+@pytest.mark.long
+def test_networks_are_chosen_by_their_annual_cost(plant: Plant) -> None:
+    found, traded = plant.network(seconds=20, annual=True), plant.tradeoff(NETWORK, seconds=10, annual=True)
+    assert found.annual_cost and near(found.annual_cost, '13673')
+    assert any('13672.89 $/a' in note for note in found.notes)
+    assert traded.annual_cost and near(traded.annual_cost, '13673') and '13672.89 $/a' in str(traded.least_a_year)
+    assert plant.tradeoff(NETWORK, seconds=1).annual_cost is None
+
+
 def test_texts_are_enough() -> None:
     assert near(pinchdesk.areas(SMALL, NETWORK).area, '39.704')
     target, built = pinchdesk.costs(SMALL), pinchdesk.costs(SMALL, NETWORK)

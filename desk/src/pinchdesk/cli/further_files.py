@@ -21,9 +21,9 @@ def check_further(output: FurtherOutput, place: str, stem: str, others: Sequence
 
 
 def check_folder(folder: str, stem: str, others: Sequence[str]) -> None:
-    """The same of files `STEM-7.txt` in a folder, which is made."""
+    """The same of files `STEM-7.txt` and `STEM-annual.txt` in a folder, which is made."""
     made_folder(folder)
-    networks = re.compile(re.escape(stem) + '-[0-9]+[.]txt')
+    networks = re.compile(re.escape(stem) + '-([0-9]+|annual)[.]txt')
     there = {key_of(entry.path) for entry in os.scandir(folder) if networks.fullmatch(entry.name)}
     where = key_of(folder)[:2]
     for path in others:

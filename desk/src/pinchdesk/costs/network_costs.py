@@ -8,6 +8,7 @@ from dataclasses import dataclass
 from ..analysis.follow import Passage
 from ..formats.case import Case, completed, read_case
 from ..program.run import CaseText, NetworkText, Pinch
+from ..program.verdicts import Accepted
 from .annual import AnnualCost, annual_cost, price_of, priced_parts
 from .cost_data import CostData
 from .enclosure import Enclosure, total
@@ -64,6 +65,12 @@ def costs_of(areas: NetworkAreas, passages: Sequence[Passage]) -> NetworkCosts:
     priced = tuple(ExchangerPrice(exchanger, price, gains.get(at))
                    for at, (exchanger, price) in enumerate(zip(areas.exchangers, prices)))
     return NetworkCosts(areas, priced, annual_cost(data, total(prices), areas.verdict.cost))
+
+
+def cost_in_year(data: CostData, passages: Sequence[Passage], verdict: Accepted) -> AnnualCost:
+    """The annual cost alone of the exchangers of an accepted network: for many of them."""
+    prices = [price_in(data, passage, exchanger_area(data, passage)) for passage in passages]
+    return annual_cost(data, total(prices), verdict.cost)
 
 
 def price_in(data: CostData, passage: Passage, exchanger: ExchangerArea) -> Enclosure:

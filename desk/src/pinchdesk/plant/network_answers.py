@@ -1,9 +1,10 @@
 """Audits, networks that are searched, and what is left of one that was begun: what `pinch` says of networks."""
 from __future__ import annotations
 
-from dataclasses import dataclass
+from dataclasses import dataclass, field
 from decimal import Decimal
 from fractions import Fraction
+from typing import TYPE_CHECKING
 
 from ..analysis.findings import headline
 from ..analysis.follow import Followed, PinchPoint
@@ -19,6 +20,10 @@ from ..report.sheet import Sheet
 from ..search.find import FewExchangers
 from .given import Written
 from .plant_answer import PlantAnswer, cost, cost_if_any, kilowatts
+
+if TYPE_CHECKING:
+    from ..costs.enclosure import Enclosure
+    from ..search.annual_choice import AnnualChoice
 
 
 @dataclass(frozen=True)
@@ -92,12 +97,17 @@ def audited(followed: Followed, verdict: Verdict, sheets: list[Sheet]) -> PlantA
 @dataclass(frozen=True, kw_only=True)
 class PlantNetwork(PlantAnswer, Written):
     """A network that was searched, and that the audit accepted: `text` is the network. `bounds` says what is known of
-    fewer exchangers; costs are in `cost_unit`."""
+    fewer exchangers; costs are in `cost_unit`. `choice` is that by annual cost, None where it was not asked for."""
 
     exact: ExactBalance
     exchangers: int
     bounds: str
     cost_unit: str
+    choice: AnnualChoice | None = field(default=None, repr=False)
+
+    @property
+    def annual_cost(self) -> Enclosure | None:
+        return self.choice.costs.cost.whole if self.choice else None
 
     @property
     def hot_kw(self) -> Decimal:
@@ -120,12 +130,12 @@ class PlantNetwork(PlantAnswer, Written):
         return cost(self.exact.floor)
 
 
-def plant_network(found: FewExchangers, sheets: list[Sheet]) -> PlantNetwork:
+def plant_network(found: FewExchangers, sheets: list[Sheet], choice: AnnualChoice | None) -> PlantNetwork:
     shown = Shown(found.basis)
-    notes = (found.told, *shown.scale_remarks(), *found.remarks())
+    notes = (found.told, *shown.scale_remarks(), *([found.annual] if choice else []), *found.remarks())
     return PlantNetwork(sheets=tuple(sheets), notes=notes, text=found.text,
                         exact=balance_of(found.verdict, shown), exchangers=found.exchangers, bounds=found.bounds,
-                        cost_unit=shown.cost_unit)
+                        cost_unit=shown.cost_unit, choice=choice)
 
 
 @dataclass(frozen=True)

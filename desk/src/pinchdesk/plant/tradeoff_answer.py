@@ -17,11 +17,13 @@ from ..report.answer_sheets import flow_sheets
 from ..report.tradeoff_sheets import network_text, tradeoff_sheets
 from ..report.unit_sheets import units_sheets
 from ..report.what_if_sheets import rounding_notes, what_if_sheets
-from ..words.tradeoff_word import STOPPED
+from ..words.tradeoff_word import STOPPED, counted
 from .plant_answer import PlantAnswer, cost, cost_if_any, kilowatts
 
 if TYPE_CHECKING:
+    from ..costs.enclosure import Enclosure
     from ..figures import ShownFigure
+    from ..search.annual_choice import AnnualChoice
     from ..search.reduce.tradeoff import TradeOff
 
 
@@ -35,13 +37,23 @@ class ExactTradeoff:
 
 @dataclass(frozen=True, kw_only=True)
 class PlantTradeoff(PlantAnswer):
-    """Networks of fewer and fewer exchangers: their texts and costs by the number of exchangers, in `cost_unit`."""
+    """Networks of fewer and fewer exchangers: their texts and costs by the number of exchangers, in `cost_unit`.
+    `choice` is that by annual cost, and `least_a_year` the text of its network; None where it was not asked for."""
 
     exact: ExactTradeoff
     networks: Mapping[int, str] = field(repr=False)
     cost_unit: str
     stopped: bool
     traded: TradeOff = field(repr=False)
+    choice: AnnualChoice | None = field(default=None, repr=False)
+
+    @property
+    def annual_cost(self) -> Enclosure | None:
+        return self.choice.costs.cost.whole if self.choice else None
+
+    @property
+    def least_a_year(self) -> str | None:
+        return network_text(self.choice.found, self.traded, self.choice.told) if self.choice else None
 
     @property
     def costs(self) -> Mapping[int, Decimal]:
@@ -57,14 +69,15 @@ class PlantTradeoff(PlantAnswer):
         return ShownFigure(tradeoff_figure(self.traded), self.notes)
 
 
-def plant_tradeoff(traded: TradeOff) -> PlantTradeoff:
+def plant_tradeoff(traded: TradeOff, choice: AnnualChoice | None = None) -> PlantTradeoff:
     shown = Shown(traded.case.basis)
     exact = ExactTradeoff({row.exchangers: shown.in_cost(row.cost) for row in traded.rows},
                           shown.in_cost(traded.floor))
-    networks = {row.exchangers: network_text(row, traded) for row in traded.rows}
-    notes = (STOPPED,) if traded.stopped else ()
-    return PlantTradeoff(sheets=tuple(tradeoff_sheets(traded)), notes=notes, exact=exact, networks=networks,
-                         cost_unit=shown.cost_unit, stopped=traded.stopped, traded=traded)
+    networks = {row.exchangers: network_text(row.judged, traded) for row in traded.rows}
+    notes = (*([counted(traded.case, choice)] if choice else []), *([STOPPED] if traded.stopped else []))
+    sheets = tradeoff_sheets(traded, choice.found if choice else None)
+    return PlantTradeoff(sheets=tuple(sheets), notes=notes, exact=exact, networks=networks, cost_unit=shown.cost_unit,
+                         stopped=traded.stopped, traded=traded, choice=choice)
 
 
 @dataclass(frozen=True, kw_only=True)

@@ -26,12 +26,13 @@ from ..program.run import Pinch
 from ..program.verdicts import Accepted, Verdict
 from ..report.page import Given, case_streams, page_of, review_of
 from ..report.page_head import PageHead
-from ..search.find import find_network
+from ..search.find import find_network, in_place_of, unseen
 from ..tables.convert import is_case
 from ..tables.cost_words import cost_of, percent_of
 from ..tables.wanted import wanted_by
 from ..words.case_word import case_text, converted
-from ..words.shared import USUAL_WORKERS
+from ..words.shared import USUAL_WORKERS, annual_chooser
+from ..words.tradeoff_word import chosen_of
 from ..words.word import TextFile
 from .given import FileGiven, Number, as_text, file_of
 from .network_answers import PlantAudit, PlantNetwork, PlantRest, plant_audit, plant_network, plant_rest, plant_table
@@ -131,28 +132,38 @@ class Plant:
             return audited(self.pinch, self.text, file.content)
 
     def network(self, above: Number | None = None, cost: Number | None = None, seconds: Number = 60,
-                start: FileGiven | None = None) -> PlantNetwork:
+                start: FileGiven | None = None, annual: bool = False) -> PlantNetwork:
         """A network with few exchangers at the least cost; or so many percent above it, or at most at this cost in the
-        unit of the case's costs. `start` is a network to improve on."""
+        unit of the case's costs. `start` is a network to improve on. With `annual` the one of least annual cost of all
+        that were accepted on the way; the case needs coefficients and cost laws."""
         if above is not None and cost is not None:
             raise WordsError('a network has a highest cost, or a percentage above the least one, not both')
         most = None if cost is None else cost_of(as_text(cost), Shown(self.case.basis))
         percent = None if above is None else percent_of(as_text(above))
         file = None if start is None else file_of(start, 'network')
         with about(case=self.name, network=file.path if file else ''):
+            chooser = annual_chooser(self.case) if annual else None
             found = find_network(self.text, most, percent, seconds_of(as_text(seconds)),
-                                 file.content if file else None, pinch=self.pinch)
+                                 file.content if file else None, pinch=self.pinch,
+                                 seen=chooser.see if chooser else unseen)
+            choice = chooser.choice() if chooser else None
+        if choice:
+            found = in_place_of(found, self.completed, choice.found, choice.told)
         judged = plant_audit(follow(self.completed, found.network), found.verdict)
-        return self.noted(plant_network(found, list(judged.sheets)))
+        return self.noted(plant_network(found, list(judged.sheets), choice))
 
-    def tradeoff(self, network: FileGiven | None = None, seconds: Number = 30) -> PlantTradeoff:
-        """Exchangers against cost: networks of fewer and fewer exchangers, from one that is given or searched for."""
-        # It wants scipy, which is slow to load.
+    def tradeoff(self, network: FileGiven | None = None, seconds: Number = 30, annual: bool = False) -> PlantTradeoff:
+        """Exchangers against cost: networks of fewer and fewer exchangers, from one that is given or searched for. With
+        `annual` the one of least annual cost is marked of all that were accepted on the way; the case needs
+        coefficients and cost laws."""
+        # It needs scipy, which is slow to load.
         from ..search.reduce.tradeoff import tradeoff
         file = None if network is None else file_of(network, 'network')
         with about(case=self.name, network=file.path if file else ''):
-            return self.noted(plant_tradeoff(tradeoff(self.case, file.content if file else None, self.pinch,
-                                                      float(seconds_of(as_text(seconds))))))
+            chooser = annual_chooser(self.case) if annual else None
+            traded = tradeoff(self.case, file.content if file else None, self.pinch,
+                              float(seconds_of(as_text(seconds))), seen=chooser.see if chooser else unseen)
+            return self.noted(plant_tradeoff(traded, chosen_of(traded, chooser) if chooser else None))
 
     def units(self, network: FileGiven | None = None) -> PlantUnits:
         """The least number of exchangers by the books' rule, beside those of a network."""

@@ -24,16 +24,18 @@ def tradeoff_sheets(traded: TradeOff, marked: AcceptedNetwork | None = None) -> 
 
 def tradeoff_tables(traded: TradeOff, marked: AcceptedNetwork | None = None) -> list[FactTable]:
     """The networks from the floor up, and the heat that was moved from one to the next, where some was. The row of one
-    of the networks may be marked."""
+    of the networks may be marked; where it has none it gets the last one."""
     shown, begun = Shown(traded.case.basis), [traded.begun] if traded.left_begun else []
-    shown_networks = [None, *begun, *(row.judged for row in traded.rows)]
+    beside = [marked] if marked and not has_row(traded, marked) else []
+    shown_networks = [None, *begun, *(row.judged for row in traded.rows), *beside]
     areas = areas_of_rows(traded, shown_networks)
     floor = (*cost_facts('floor', traded.floor, traded, shown), Fact('excess', None, shown.heat_unit),
              Fact('splits', None),
              *([Fact('in the plant', None)] if traded.case.basis.segments else []), *areas[0],
              Fact('gone', 'no network costs less'))
-    networks = (floor, *((*begun_row(traded, shown), *areas[1]) for _ in begun),
-                *(network_row(row, traded, shown, areas[at]) for at, row in enumerate(traded.rows, 1 + len(begun))))
+    networks = (floor, *((*row_beside(f'from {found.count}', found, traded, shown), *areas[1]) for found in begun),
+                *(network_row(row, traded, shown, areas[at]) for at, row in enumerate(traded.rows, 1 + len(begun))),
+                *((*row_beside(f'{found.count}, least a year', found, traded, shown), *areas[-1]) for found in beside))
     rows_marked = frozenset(at for at, found in enumerate(shown_networks)
                             if marked and found and found.network == marked.network)
     moved = tuple((Fact('exchangers', Decimal(row.exchangers)),
@@ -59,13 +61,16 @@ def cost_facts(exchangers: str | Decimal, cost: Number, traded: TradeOff, shown:
             Fact('above the floor', Decimal(shown.cost(cost - traded.floor)), shown.cost_unit))
 
 
-def begun_row(traded: TradeOff, shown: Shown) -> FactRow:
-    """The network from which the search went out, where a row is better."""
-    begun = traded.begun
-    return (*cost_facts(f'from {begun.count}', begun.cost, traded, shown),
-            Fact('excess', Decimal(shown.heat(begun.verdict.excess)), shown.heat_unit),
-            Fact('splits', Decimal(begun.splits)),
-            *joined_facts(begun.network, traded))
+def has_row(traded: TradeOff, found: AcceptedNetwork) -> bool:
+    """Whether a network is one of the rows, or the one from which the search went out."""
+    return any(network == found.network for network in (traded.begun.network, *(row.network for row in traded.rows)))
+
+
+def row_beside(exchangers: str, found: AcceptedNetwork, traded: TradeOff, shown: Shown) -> FactRow:
+    """A network that is none of the steps: from which the search went out, or of least annual cost."""
+    return (*cost_facts(exchangers, found.cost, traded, shown),
+            Fact('excess', Decimal(shown.heat(found.verdict.excess)), shown.heat_unit),
+            Fact('splits', Decimal(found.splits)), *joined_facts(found.network, traded))
 
 
 def network_row(row: TradeOffRow, traded: TradeOff, shown: Shown, areas: FactRow) -> FactRow:
@@ -100,15 +105,18 @@ def proved(traded: TradeOff) -> str:
             f'{segments}')
 
 
-def network_texts(traded: TradeOff) -> dict[str, str]:
-    """The networks as texts, by their numbers of exchangers."""
-    return {str(row.exchangers): network_text(row, traded) for row in traded.rows}
+def network_texts(traded: TradeOff, marked: AcceptedNetwork | None = None, told: str = '') -> dict[str, str]:
+    """The networks as texts, by their numbers of exchangers; where one is marked it is `annual` too, with what is told
+    of it."""
+    texts = {str(row.exchangers): network_text(row.judged, traded) for row in traded.rows}
+    return {**texts, 'annual': network_text(marked, traded, told)} if marked else texts
 
 
-def network_text(row: TradeOffRow, traded: TradeOff) -> str:
+def network_text(found: AcceptedNetwork, traded: TradeOff, told: str = '') -> str:
     """A network as a text, with what it is in comments."""
     shown = Shown(traded.case.basis)
-    head = (f'# {row.exchangers} exchangers, {row.judged.splits} splits',
-            f'# cost {shown.with_unit(row.cost)}, floor {shown.with_unit(traded.floor)}, '
-            f'excess {shown.heat(row.excess)} {shown.heat_unit}', *(f'# {remark}' for remark in shown.scale_remarks()))
-    return '\n'.join(head) + '\n' + print_network(row.network)
+    head = (f'# {found.count} exchangers, {found.splits} splits',
+            f'# cost {shown.with_unit(found.cost)}, floor {shown.with_unit(traded.floor)}, '
+            f'excess {shown.heat(found.verdict.excess)} {shown.heat_unit}', *([f'# {told}'] if told else []),
+            *(f'# {remark}' for remark in shown.scale_remarks()))
+    return '\n'.join(head) + '\n' + print_network(found.network)

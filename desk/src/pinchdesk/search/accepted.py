@@ -100,12 +100,14 @@ def held_network(network: NetworkText) -> Network:
 @dataclass
 class Judge:
     """Asks `pinch audit` of a completed case. What is searched has to be as it is wished; the cuts of the case, at
-    shifted temperatures, are for the wish that no exchanger works through one."""
+    shifted temperatures, are for the wish that no exchanger works through one. `sees_all` where networks that are no
+    better than the best are wanted too (`visited`)."""
 
     pinch: Pinch
     case: Case
     wishes: Wishes = NO_WISHES
     cuts: tuple[int, ...] = ()
+    sees_all: bool = field(default=False, kw_only=True)
 
     @property
     def whole(self) -> Case:

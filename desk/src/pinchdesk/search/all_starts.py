@@ -10,7 +10,7 @@ from math import inf
 from threading import Event, Lock, Thread
 
 from ..errors import Refused
-from .accepted import AcceptedNetwork, Judged
+from .accepted import AcceptedNetwork, Judge, Judged
 from .budget import FOREVER, Effort, TimeOver
 from .finishing import finished
 from .reduce.network_structure import structure_of
@@ -40,9 +40,8 @@ LONG_START = 6.0
 class AllStarts:
     """A search by all starts. `tell` gets what it is at."""
 
-    def __init__(self, task: NetworkTask, tell: Callable[[SearchState], None]) -> None:
-        self.task, self.tell = task, tell
-        self.judge = task.judge()
+    def __init__(self, task: NetworkTask, judge: Judge, tell: Callable[[SearchState], None]) -> None:
+        self.task, self.judge, self.tell = task, judge, tell
         self.state = SearchState(task.best, each_stream_has_one(task.case))
         self.largest = max((len(window.pieces) for window in windows(task.case, task.uses)), default=0)
         self.bettered = time.monotonic()

@@ -102,11 +102,14 @@ class Parent:
         nowhere = os.open(os.devnull, os.O_WRONLY)
         os.dup2(nowhere, 1)
         os.close(nowhere)
+        self.lock = threading.Lock()
 
     def tell(self, message: object) -> None:
+        """Tells a message, whole, whichever thread it is of."""
         left = memoryview(packed(message))
-        while left:
-            left = left[os.write(self.outlet, left):]
+        with self.lock:
+            while left:
+                left = left[os.write(self.outlet, left):]
 
     def asked(self) -> Iterator[object]:
         """What is asked, until nobody asks."""

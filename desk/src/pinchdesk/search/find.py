@@ -24,6 +24,7 @@ from .budget import FOREVER, GRACE, SearchWay, for_search, nobody
 from .search_state import INTERRUPTED, TIME_OVER, SearchState, each_stream_has_one
 from .staged.windows import windows
 from .tasks import NetworkTask, SearchProcess
+from .visited import Visited
 from .wishes import NO_WISHES, Wishes
 
 SECONDS = 60.0
@@ -142,7 +143,7 @@ def find_network(case: CaseText, most_cost: Fraction | int | None = None, above:
     The time counts from the call, or from `begun` by `time.monotonic`. When it is over, or at an interruption from the
     keyboard, the best so far is given: at least that of `pinch design` where it is as wished. `way` says in which way
     is searched, and may have a number of steps in place of a time; `wishes` what the network has to be beside. Each
-    network that may be given is `seen`."""
+    network that may be given is `seen`, also one that is no better than the best so far."""
     pinch, begun = pinch or Pinch(), time.monotonic() if begun is None else begun
     with SearchProcess() as process, ThreadPoolExecutor(1) as beside:
         designing = beside.submit(designed, pinch, case)
@@ -153,10 +154,15 @@ def find_network(case: CaseText, most_cost: Fraction | int | None = None, above:
         lasts = float(seconds) if way.steps is None else FOREVER
         task = task_of(pinch, asked, flow, limit, None, begun, lasts, way, staying(wishes, begins, limit))
         fewest = FewestInPlant(asked, seen)
-        task = replace(task, best=best_of(task, fewest.see, begins, designing.result()))
+        best = best_of(task, fewest.see, begins, designing.result())
+        task = replace(task, best=best, watched=seen is not unseen)
         state, ended = SearchState(task.best, each_stream_has_one(asked)), TIME_OVER
         try:
             for message in process.told(task, begun + lasts + GRACE):
+                if isinstance(message, Visited):
+                    if task.is_within(message.found):
+                        seen(message.found)
+                    continue
                 assert isinstance(message, SearchState)
                 state = message
                 if state.best:
@@ -267,8 +273,7 @@ def bettered(pinch: Pinch, case: Case, start: NetworkText | None) -> AcceptedNet
 def best_of(task: NetworkTask, seen: Callable[[AcceptedNetwork], None],
             *found: AcceptedNetwork | None) -> AcceptedNetwork | None:
     """The best of some networks that costs no more than it may and is as it is wished."""
-    within = [network for network in found if network and network.cost <= task.most_cost
-              and task.wishes.are_met(task.case, task.cuts, network.network)]
+    within = [network for network in found if network and task.is_within(network)]
     for network in within:
         seen(network)
     return min(within, key=lambda network: network.rank) if within else None

@@ -2,7 +2,7 @@
 where the process is ended."""
 from __future__ import annotations
 
-from collections.abc import Callable, Iterator, Mapping
+from collections.abc import Iterator, Mapping
 from dataclasses import dataclass, replace
 from fractions import Fraction
 from pickle import PicklingError, dumps, loads
@@ -16,15 +16,15 @@ from .budget import SearchWay
 from .child import Child, Gone, Parent, Silent
 from .search_state import SearchState
 from .staged.windows import cuts_between, windows
+from .visited import Tell, program_of
 from .wishes import NO_WISHES, Wishes, cut_case
-
-Tell = Callable[[object], None]
 
 
 @dataclass(frozen=True)
 class NetworkTask:
     """A search for a network of few exchangers that costs at most so much, from the best one so far, with the heat of
-    each utility at the least cost. It has so many seconds from a time by `time.monotonic`. `SearchState`s are told."""
+    each utility at the least cost. It has so many seconds from a time by `time.monotonic`. `SearchState`s are told,
+    and where it is `watched` each accepted network on the way."""
 
     program: str
     case: Case
@@ -36,23 +36,31 @@ class NetworkTask:
     seconds: float
     way: SearchWay = SearchWay()
     wishes: Wishes = NO_WISHES
+    watched: bool = False
 
     @property
     def cuts(self) -> tuple[int, ...]:
         """The shifted temperatures at which no heat crosses."""
         return tuple(sorted({place for place, _ in cuts_between(self.case, self.uses)}, reverse=True))
 
-    def judge(self) -> Judge:
+    def is_within(self, found: AcceptedNetwork) -> bool:
+        """Whether an accepted network costs no more than it may, and is as it is wished."""
+        return found.cost <= self.most_cost and self.wishes.are_met(self.case, self.cuts, found.network)
+
+    def pinch(self, tell: Tell) -> Pinch:
+        return program_of(self.program, self.case, tell, self.watched)
+
+    def judge(self, tell: Tell) -> Judge:
         """Who judges what is searched; where nothing may work through a cut, in the case that is cut there."""
-        pinch = Pinch(self.program)
+        pinch = self.pinch(tell)
         if self.wishes.may_cross:
-            return Judge(pinch, self.case, self.wishes, self.cuts)
+            return Judge(pinch, self.case, self.wishes, self.cuts, sees_all=self.watched)
         cut = cut_case(self.case, windows(self.case, self.uses))
-        return CutJudge(pinch, cut.case, self.wishes, self.cuts, cut=cut, audited=self.case)
+        return CutJudge(pinch, cut.case, self.wishes, self.cuts, sees_all=self.watched, cut=cut, audited=self.case)
 
     def run(self, tell: Tell) -> AcceptedNetwork | None:
         from .all_starts import AllStarts
-        return AllStarts(self, tell).run()
+        return AllStarts(self, self.judge(tell), tell).run()
 
 
 @dataclass(frozen=True)
@@ -74,7 +82,7 @@ class TradeoffTask:
         from .reduce.fewer import Fewer
         from .reduce.tradeoff import rows_of
         task = self.search
-        judge = Judge(Pinch(task.program), task.case)
+        judge = Judge(task.pinch(tell), task.case, sees_all=task.watched)
         begun = judge.given(self.network or self.searched(tell))
         tell(Begun(begun))
         fewer = Fewer(judge, begun, task.seconds, tell, task.begun)
@@ -88,7 +96,7 @@ class TradeoffTask:
         found = task.run(tell)
         if found is None:
             raise ProgramError('no network was found in time')
-        return simpler(task.case, found.network, Pinch(task.program), tell=lambda less: tell(SearchState(less)))
+        return simpler(task.case, found.network, task.pinch(tell), tell=lambda less: tell(SearchState(less)))
 
 
 Task = NetworkTask | TradeoffTask

@@ -29,8 +29,8 @@ DECLARED = (
     Option('above', 'how far above the least cost it may be', ('--above',), metavar='PERCENT', one_of='cost'),
     Option('seconds', 'how long it takes at most, but for a moment (60 unless given)', ('--seconds',), default='60',
            metavar='S'),
-    Option('annual', 'of the networks that are found the one of least annual cost, in place of the fewest exchangers; '
-           'the case needs coefficients and cost laws', ('--annual',), default=False, switch=True),
+    Option('annual', 'of all networks that are accepted on the way the one of least annual cost, in place of the '
+           'fewest exchangers; the case needs coefficients and cost laws', ('--annual',), default=False, switch=True),
     Option('no_better', 'it ends where nothing better was found for so long', ('--until-no-better',), metavar='S'),
     Option('steps', 'how many steps it takes, in place of seconds: then the network is the same each time',
            ('--steps',), whole, metavar='N'),

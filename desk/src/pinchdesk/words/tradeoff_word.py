@@ -5,6 +5,7 @@ from collections.abc import Callable
 from dataclasses import dataclass
 from typing import TYPE_CHECKING
 
+from ..analysis.joined import network_count
 from ..errors import about
 from ..formats.amounts import seconds_of
 from ..formats.case import Case, read_case
@@ -24,10 +25,12 @@ if TYPE_CHECKING:
     from ..search.reduce.tradeoff import TradeOff
 
 BEGUN = Role(NETWORK.name, 'a network text to begin with; otherwise one is searched for', needed=False)
-NETWORKS = FurtherOutput('networks', '--networks', 'where the networks are written, one file for each row', folder=True)
+NETWORKS = FurtherOutput('networks', '--networks', 'where the networks are written, one file for each row, and with '
+                         '--annual one for the network of least annual cost', folder=True)
 SECONDS = Option('seconds', 'how long it takes at most, but for a moment; it ends earlier where nothing more is '
                  'gained, and Control-C ends it with what was found', ('--seconds',), default='30', metavar='S')
-ANNUAL = Option('annual', 'marks the network of least annual cost; the case needs coefficients and cost laws',
+ANNUAL = Option('annual', 'marks the network of least annual cost among all that were accepted on the way; the case '
+                'needs coefficients and cost laws',
                 ('--annual',), default=False, switch=True)
 STOPPED = 'the search was stopped: these are the networks that were found so far'
 
@@ -44,6 +47,7 @@ class TradeoffOptions(CaseShown):
 def tradeoff(files: Files, options: TradeoffOptions = TradeoffOptions(), tell: Telling = nobody) -> Answer:
     case, network = files.one('case'), files.get('network')
     seconds = float(seconds_of(options.seconds))
+    from ..search.find import unseen
     from ..search.reduce.tradeoff import tradeoff as searched
     with about(case=case.name, network=network.name if network else ''):
         pinch = Pinch()
@@ -51,18 +55,24 @@ def tradeoff(files: Files, options: TradeoffOptions = TradeoffOptions(), tell: T
         read = read_case(case.content)
         chooser = annual_chooser(read) if options.annual else None
         traded = searched(read, network.content if network else None, pinch, seconds, told_on(read, tell),
-                          options.begun)
+                          options.begun, chooser.see if chooser else unseen)
         choice = chosen_of(traded, chooser) if chooser else None
     marked = choice.found if choice else None
     sheets = tuple(tradeoff_sheets(traded, marked))
-    told = (f'{choice.found.count} exchangers: {choice.told}',) if choice else ()
+    told = (counted(traded.case, choice),) if choice else ()
+    texts = network_texts(traded, marked, choice.told if choice else '')
     return Answer(sheets, in_form(traded, sheets), rows_of_tables(tradeoff_tables(traded, marked)),
                   '; '.join((*told, proved(traded))), notes=(*told, *((STOPPED,) if traded.stopped else ())),
-                  further={NETWORKS.name: FurtherFiles(network_texts(traded))})
+                  further={NETWORKS.name: FurtherFiles(texts)})
+
+
+def counted(case: Case, choice: AnnualChoice) -> str:
+    """What is said of the network of least annual cost."""
+    return f'{network_count(case, choice.found.network)} exchangers: {choice.told}'
 
 
 def chosen_of(traded: TradeOff, chooser: AnnualChooser) -> AnnualChoice:
-    """The network of least annual cost among those of a trade-off."""
+    """The network of least annual cost among those that a trade-off saw and those of its rows."""
     for found in ([traded.begun] if traded.left_begun else []) + [row.judged for row in traded.rows]:
         chooser.see(found)
     return chooser.choice()

@@ -66,10 +66,9 @@ class Fewer:
     def offer(self, costed: Costed | None) -> bool:
         """Takes what was found where no network of so many exchangers is cheaper, and none of as much is simpler."""
         best_so_far = self.best.get(len(costed.duties)) if costed else None
-        if costed is None or best_so_far and best_so_far.cost < costed.cost:
-            return False
-        judged = self.judge.of(costed)
-        return judged is not None and self.take(judged)
+        is_dearer = costed is None or best_so_far is not None and best_so_far.cost < costed.cost
+        judged = None if is_dearer and not self.judge.sees_all else self.judge.of(costed)
+        return judged is not None and not is_dearer and self.take(judged)
 
     def take(self, judged: Judged) -> bool:
         """Takes a network where none of so many exchangers is cheaper, or as cheap and as simple."""

@@ -5,7 +5,7 @@ from __future__ import annotations
 import time
 from collections.abc import Callable, Iterator, Mapping
 from concurrent.futures import ThreadPoolExecutor
-from dataclasses import dataclass, field
+from dataclasses import dataclass, field, replace
 from fractions import Fraction
 
 from ...errors import Status
@@ -14,9 +14,10 @@ from ...formats.network import Exchanger, Network
 from ...program.run import CaseText, NetworkText, Pinch
 from ..accepted import AcceptedNetwork, Judge, Judged, case_of
 from ..budget import GRACE
-from ..find import NoNetwork, designed, flow_of, task_of
+from ..find import NoNetwork, designed, flow_of, task_of, unseen
 from ..search_state import SearchState
 from ..tasks import Begun, SearchProcess, TradeoffTask
+from ..visited import Visited
 from .moves import letter_of, next_name, taken_names
 from .network_structure import Costed
 from .paths import Shift, shifts
@@ -79,21 +80,24 @@ class TradeOff:
 
 
 def tradeoff(case: CaseText, network: NetworkText | None = None, pinch: Pinch | None = None, seconds: float = 30.0,
-             tell: Telling = nobody, begun: float | None = None) -> TradeOff:
+             tell: Telling = nobody, begun: float | None = None,
+             seen: Callable[[AcceptedNetwork], None] = unseen) -> TradeOff:
     """The trade-off of a case, from a network or from one that is searched. `NotAccepted` where the network is not,
     `NoNetwork` where the case has none.
 
     The time counts from the call, or from `begun` by `time.monotonic`. When it is over, or at an interruption from the
-    keyboard, what was found is given: at least the network to begin with, or that of `pinch design`."""
+    keyboard, what was found is given: at least the network to begin with, or that of `pinch design`. Each accepted
+    network on the way is `seen`, also one that comes into no row."""
     judge, begun = Judge(pinch or Pinch(), case_of(case)), time.monotonic() if begun is None else begun
     with SearchProcess() as process, ThreadPoolExecutor(1) as beside:
         beginning = beside.submit(designed, judge.pinch, judge.case) if network is None else \
             beside.submit(judge.accepted, network)
         flow = flow_of(judge.pinch, judge.case)
         first = beginning.result()
-        task = TradeoffTask(task_of(judge.pinch, judge.case, flow, Fraction(flow.cost), first, begun, seconds),
+        search = task_of(judge.pinch, judge.case, flow, Fraction(flow.cost), first, begun, seconds)
+        task = TradeoffTask(replace(search, watched=seen is not unseen),
                             first.network if first and network is not None else None)
-        found = FoundSoFar(first)
+        found = FoundSoFar(first, seen)
         try:
             for message in process.told(task, begun + seconds + GRACE):
                 found.take(message, tell)
@@ -107,6 +111,7 @@ class FoundSoFar:
     """What a search told: with which network it begins, the cheapest of each number, and at its end the rows."""
 
     first: AcceptedNetwork | None
+    seen: Callable[[AcceptedNetwork], None] = unseen
     begun: Judged | None = None
     best: dict[int, Judged] = field(default_factory=dict)
     rows: tuple[TradeOffRow, ...] = ()
@@ -114,6 +119,8 @@ class FoundSoFar:
 
     def take(self, message: object, tell: Telling) -> None:
         match message:
+            case Visited(visited):
+                self.seen(visited)
             case SearchState(best):
                 self.first = best
             case Begun(judged):

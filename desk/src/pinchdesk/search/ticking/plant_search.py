@@ -7,6 +7,7 @@ from __future__ import annotations
 from collections.abc import Callable, Mapping, Sequence
 from dataclasses import dataclass, field, replace
 from fractions import Fraction
+from math import inf
 
 from ..accepted import Judge, Judged
 from ..reduce.structure import Structure
@@ -16,6 +17,7 @@ from .window_courses import Chain, ChainEnd, WindowNetwork, shape_of
 from .growing import Growing
 from .jobs import ChainJob, CombineJob, DropJob, GrowJob, Job, StartJob, ThinJob, WholeEnd
 from .thinning import Aim, Combination, Mixing, Thinned
+from .visiting import Visitor
 
 # A job is asked when so many before it are still at work: as many processes are busy.
 LAG = 8
@@ -130,6 +132,7 @@ class PlantSearch:
         self.favourite: Combination = ()
         # The latest of the networks of the fewest exchangers, in floats.
         self.grounds: list[Structure] = []
+        self.visitor = Visitor(judge, most_cost, pace.seconds == inf) if judge.sees_all else None
         # How many jobs were taken, and when the last of them found something better.
         self.taken, self.bettered = 0, 0
         # What stays may stand in several windows, so that these are not searched by themselves then.
@@ -198,6 +201,8 @@ class PlantSearch:
                 if judged is not None:
                     self.aim, self.bettered = replace(self.aim, least=rank), self.taken
                     self.tell(judged)
+        if self.visitor:
+            self.visitor.look(end.found, self.aim)
 
     def note(self, thin: Thinned) -> None:
         """Keeps a structure that is near the best, which may be made less later."""
