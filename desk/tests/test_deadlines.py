@@ -74,7 +74,7 @@ def test_a_time_that_was_over_before_gives_the_network_of_the_design(pinch: Pinc
     case = example('tc3.csv')
     found = find_network(case, pinch=pinch, seconds=1, begun=time.monotonic() - 10)
     assert found.text.count('\nexchanger ') == pinch.design(case).text.count('exchanger ') == found.exchangers
-    assert found.bounds == 'bound: at least 2 in any network at this cost, by the solver\'s floats'
+    assert found.bounds == 'bound: at least 2 in any network at this cost (in fractions)'
     assert found.ended == 'time over'
     traded = tradeoff(case, pinch=pinch, seconds=1, begun=time.monotonic() - 10)
     assert [row.exchangers for row in traded.rows] == [found.exchangers] and traded.left_begun is False

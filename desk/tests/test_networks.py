@@ -30,7 +30,7 @@ FEW = {'four-stream': 6, 'tc3': 7, 'two-reactors': 7, 'own-contributions': 7, 'c
 @pytest.mark.parametrize('name', few_of(FEW, ('four-stream', 'preheater')))
 def test_as_few_as_published_at_the_least_cost(pinch: Pinch, name: str) -> None:
     found = find_network(example(f'{name}.csv'), pinch=pinch, seconds=300)
-    assert found.bound <= found.exchangers <= FEW[name]
+    assert found.bound == found.proved <= found.exchangers <= FEW[name]
     verdict = pinch.audit(example(f'{name}.csv'), found.text)
     assert isinstance(verdict, Accepted) and verdict.cost == verdict.floor == found.verdict.cost
     assert found.text.startswith(f'# {found.exchangers} exchangers\n# bound: at least ')

@@ -11,16 +11,14 @@ from threading import Event, Lock, Thread
 
 from ..errors import Refused
 from .accepted import AcceptedNetwork, Judge, Judged
-from .budget import FOREVER, Effort, TimeOver
+from .bounding import Bounding
+from .budget import FOREVER, Effort
 from .finishing import finished
 from .reduce.network_structure import structure_of
 from .reduce.structure import Structure
-from .search_state import ALL_STEPS, NO_BETTER, TIME_OVER, TO_THE_END, SearchState, each_stream_has_one
-from .staged.ask import Solver, least_of
-from .staged.pair_sets import PairSets
+from .search_state import ALL_STEPS, NO_BETTER, TIME_OVER, TO_THE_END, SearchState, first_state
 from .staged.staged_search import Search
-from .staged.window_bound import window_bound_program
-from .staged.windows import whole, windows
+from .staged.windows import windows
 from .tasks import NetworkTask
 from .ticking.crew import JobCrew, processors
 from .ticking.plant_search import JobRow, Pace, PlantSearch
@@ -28,9 +26,9 @@ from .wishes import NO_WISHES
 
 # In windows of so many sources the staged model is done in a moment, and does well at all.
 TINY, SMALL = 8, 13
-# What of the time it has in tiny windows; what a bound has without it; what is left for the last steps; how long the
-# solver waits for a first network.
-STAGED, BOUND, LAST, WAITING = 0.5, 0.2, 0.05, 0.1
+# What of the time it has in tiny windows; what a bound has in these, and in others; what is left for the last steps;
+# how long the solver waits for a first network.
+STAGED, TINY_BOUND, BOUND, LAST, WAITING = 0.5, 0.02, 0.15, 0.05, 0.1
 # What one job of a tiny case does, and after how many of them without a gain it is done.
 SHORT_JOBS, IDLE = Pace(steps=100, tries=20), 40
 # A network to begin with that has so many times as many exchangers as there are sources is left aside.
@@ -42,7 +40,7 @@ class AllStarts:
 
     def __init__(self, task: NetworkTask, judge: Judge, tell: Callable[[SearchState], None]) -> None:
         self.task, self.judge, self.tell = task, judge, tell
-        self.state = SearchState(task.best, each_stream_has_one(task.case))
+        self.state = first_state(task.case, task.best)
         self.largest = max((len(window.pieces) for window in windows(task.case, task.uses)), default=0)
         self.bettered = time.monotonic()
         self.lock, self.found = Lock(), Event()
@@ -52,6 +50,7 @@ class AllStarts:
         is_tiny = self.largest <= TINY
         if self.task.way.steps is None:
             if is_tiny and self.task.wishes == NO_WISHES:
+                Bounding(self.task, TINY_BOUND, self.hear).run()
                 self.stage(STAGED)
             else:
                 Thread(target=self.beside, daemon=True).start()
@@ -74,8 +73,7 @@ class AllStarts:
             if state.best is not None and (best is None or state.best.rank < best.rank):
                 best, self.bettered = state.best, time.monotonic()
                 self.found.set()
-            self.state = SearchState(best, max(state.bound, self.state.bound), state.staged or self.state.staged,
-                                     of_uses=max(state.of_uses, self.state.of_uses))
+            self.state = replace(self.state.joined(state), best=best)
             self.tell(self.state)
 
     def take(self, found: AcceptedNetwork) -> None:
@@ -85,31 +83,16 @@ class AllStarts:
         """The staged model, for a part of the time."""
         task = self.task
         effort = Effort(task.seconds * part, task.begun)
-        Search(self.judge.pinch, task.case, task.floor, task.most_cost, effort, task.best, self.hear).run(task.uses)
+        Search(self.judge.pinch, task.case, task.floor, task.most_cost, effort, task.best, self.state.bound,
+               self.hear).run(task.uses)
 
     def beside(self) -> None:
         """What is asked of the solver while windows are ticked off, once there is a first network, or some time is
         over."""
         self.found.wait(self.task.seconds * WAITING)
-        if self.largest <= SMALL and self.task.wishes == NO_WISHES:
-            self.ask_bound(False)
+        Bounding(self.task, BOUND, self.hear).run()
+        if self.largest <= SMALL and self.task.wishes == NO_WISHES and not self.enough():
             self.stage()
-        else:
-            self.ask_bound(True)
-
-    def ask_bound(self, of_cost: bool) -> None:
-        """What the solver says that no network has fewer exchangers than: at the cost, and, where that is the least,
-        with its uses of the utilities."""
-        task, solver = self.task, Solver(Effort(self.task.seconds, self.task.begun))
-        with suppress(TimeOver):
-            if of_cost:
-                sets = PairSets(solver, whole(task.case, None), task.most_cost)
-                sets.first(task.seconds * BOUND)
-                self.hear(SearchState(None, sets.least))
-            if task.most_cost == task.floor:
-                program = window_bound_program(windows(task.case, task.uses))
-                self.hear(SearchState(None, of_uses=least_of(solver, program, task.seconds * BOUND)))
-        solver.apart.end()
 
     def tick(self, is_tiny: bool) -> str:
         """Windows ticked off, for the rest of the time or for so many steps; why that ended."""

@@ -21,7 +21,7 @@ from ..program.run import CaseText, NetworkText, Pinch
 from ..program.verdicts import Accepted, ending
 from .accepted import AcceptedNetwork, accepted_network, case_of
 from .budget import FOREVER, GRACE, SearchWay, for_search, nobody
-from .search_state import INTERRUPTED, TIME_OVER, SearchState, each_stream_has_one
+from .search_state import INTERRUPTED, TIME_OVER, SearchState, first_state
 from .staged.windows import windows
 from .tasks import NetworkTask, SearchProcess
 from .visited import Visited
@@ -45,9 +45,10 @@ class FewExchangers:
     isothermal mixing, None where that was not settled; `ended` is why the search ended. `rule` is what the books' rule
     counts, one less than the sources of the plant in each window: no bound. `tight` are the exchangers that work at the
     least approach from end to end, and `libraries` those by which the same search finds the same again, where it does.
-    `of_uses` is the same as `bound` for networks with the uses of the utilities that the heat flow of least cost has.
-    `basis` is that of the case; `exchangers` are those of the plant, of which one that goes on across the kink of a
-    stream is one; `annual` is what is said of the cost of a year where the network was chosen by it."""
+    `of_uses` is the same as `bound` for networks with the uses of the utilities that the heat flow of least cost has,
+    and `proved` and `proved_of_uses` are as much of both as is proved in fractions. `basis` is that of the case;
+    `exchangers` are those of the plant, of which one that goes on across the kink of a stream is one; `annual` is what
+    is said of the cost of a year where the network was chosen by it."""
 
     network: Network
     verdict: Accepted
@@ -61,6 +62,8 @@ class FewExchangers:
     libraries: str = ''
     of_uses: int = 0
     annual: str = ''
+    proved: int = 0
+    proved_of_uses: int = 0
 
     @property
     def text(self) -> str:
@@ -96,18 +99,26 @@ class FewExchangers:
     def bounds(self) -> str:
         """What no network has fewer exchangers than, and which networks, in words; each segment counts as a stream."""
         parts = ' in the program, each segment a stream of its own,' if self.basis.segments else ''
-        told = [f'bound: at least {self.bound}{parts} in any network at this cost']
+        told = [f'bound: at least {self.bound}{parts} in any network at this cost{how(self.bound, self.proved)}']
         if self.of_uses > self.bound:
-            told.append(f'{self.of_uses} in any with these uses of the utilities')
+            proof = how(self.of_uses, self.proved_of_uses)
+            told.append(f'{self.of_uses} in any with these uses of the utilities{proof}')
         if self.staged is not None:
             stages = '+'.join(map(str, self.staged[1]))
-            told.append(f'{self.staged[0]} in {stages} stages with isothermal mixing')
-        return ', '.join([*told, 'by the solver\'s floats'])
+            told.append(f'{self.staged[0]} in {stages} stages with isothermal mixing{how(self.staged[0], 0)}')
+        return ', '.join(told)
 
     @property
     def told(self) -> str:
         """The bounds, and why the search ended."""
         return f'{self.bounds} ({self.ended})'
+
+
+def how(bound: int, proved: int) -> str:
+    """How a bound is known, of which so much is proved."""
+    if proved >= bound:
+        return ' (in fractions)'
+    return f' (by the solver\'s floats{f"; {proved} in fractions" if proved else ""})'
 
 
 def unseen(found: AcceptedNetwork) -> None:
@@ -156,7 +167,7 @@ def find_network(case: CaseText, most_cost: Fraction | int | None = None, above:
         fewest = FewestInPlant(asked, seen)
         best = best_of(task, fewest.see, begins, designing.result())
         task = replace(task, best=best, watched=seen is not unseen)
-        state, ended = SearchState(task.best, each_stream_has_one(asked)), TIME_OVER
+        state, ended = first_state(asked, task.best), TIME_OVER
         try:
             for message in process.told(task, begun + lasts + GRACE):
                 if isinstance(message, Visited):
@@ -224,7 +235,8 @@ def found_in(task: NetworkTask, state: SearchState, ended: str) -> FewExchangers
     libraries = '' if task.way.steps is None else f'numpy {version("numpy")} and scipy {version("scipy")}'
     return FewExchangers(best.network, best.verdict, min(state.bound, best.count), staged, ended,
                          network_count(task.case, best.network), task.case.basis, rule,
-                         tight_of(task.case, best.network), libraries, min(state.of_uses, best.count))
+                         tight_of(task.case, best.network), libraries, min(state.of_uses, best.count), '', state.proved,
+                         state.proved_of_uses)
 
 
 def in_place_of(found: FewExchangers, case: Case, chosen: AcceptedNetwork, annual: str) -> FewExchangers:

@@ -251,7 +251,7 @@ def matrix_of(rows: Sequence[LinearRow], width: int) -> tuple[csr_matrix, Floats
     places: tuple[list[int], list[int]] = ([], [])
     low, high = numpy.full(len(rows), -math.inf), numpy.full(len(rows), math.inf)
     for line, row in enumerate(rows):
-        largest = max((abs(factor) for _, factor in row.terms), default=Fraction(0)) or Fraction(1)
+        largest = largest_of(row)
         for at, factor in row.terms:
             data.append(float(factor / largest))
             places[0].append(line)
@@ -259,3 +259,8 @@ def matrix_of(rows: Sequence[LinearRow], width: int) -> tuple[csr_matrix, Floats
         low[line] = -math.inf if row.low is None else float(row.low / largest)
         high[line] = math.inf if row.high is None else float(row.high / largest)
     return csr_matrix((data, places), shape=(len(rows), width)), low, high
+
+
+def largest_of(row: LinearRow) -> Fraction:
+    """The largest coefficient of a row, by which it is divided for the solver."""
+    return max((abs(factor) for _, factor in row.terms), default=Fraction(0)) or Fraction(1)

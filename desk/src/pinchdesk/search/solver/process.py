@@ -9,6 +9,7 @@ from dataclasses import dataclass
 from ...errors import ProgramError
 from ..child import Child, Gone, Parent, Silent
 from .linear import OutOfTime, Program, Solved, solve
+from .proved_bound import proved_least
 
 # What the solver may take after its time limit before it is ended.
 GRACE = 5.0
@@ -27,6 +28,15 @@ class Question:
     gap: float
 
 
+@dataclass(frozen=True)
+class ToProve:
+    """A bound that is to be proved."""
+
+    program: Program
+    wanted: int
+    seconds: float
+
+
 class Apart:
     """The solver's process, begun when it is first asked."""
 
@@ -37,19 +47,35 @@ class Apart:
         """As `linear.solve`."""
         if len(program.wholes) <= SMALL:
             return solve(program, seconds, gap)
-        answered = False
-        try:
-            found = self.ask(Question(program, seconds, gap))
-            answered = True
-        finally:
-            if not answered:
-                self.end()
+        found = self.answered(Question(program, seconds, gap))
         if isinstance(found, OutOfTime):
             raise found
         assert found is None or isinstance(found, Solved)
         return found
 
-    def ask(self, question: Question) -> object:
+    def prove(self, program: Program, wanted: int, seconds: float) -> int:
+        """As `proved_bound.proved_least`."""
+        if len(program.wholes) <= SMALL:
+            return proved_least(program, wanted, seconds)
+        try:
+            proved = self.answered(ToProve(program, wanted, seconds))
+        except OutOfTime:
+            return 0
+        assert isinstance(proved, int)
+        return proved
+
+    def answered(self, question: Question | ToProve) -> object:
+        """The answer of the process, which is ended where it gives none."""
+        is_there = False
+        try:
+            answer = self.ask(question)
+            is_there = True
+        finally:
+            if not is_there:
+                self.end()
+        return answer
+
+    def ask(self, question: Question | ToProve) -> object:
         child = self.begun()
         until = time.monotonic() + question.seconds + GRACE
         try:
@@ -88,10 +114,14 @@ def serve() -> None:
     parent = Parent()
     parent.tell(None)
     for question in parent.asked():
-        assert isinstance(question, Question)
-        found: object
-        try:
-            found = solve(question.program, question.seconds, question.gap)
-        except OutOfTime as fault:
-            found = fault
-        parent.tell(found)
+        assert isinstance(question, Question | ToProve)
+        parent.tell(answer_of(question))
+
+
+def answer_of(question: Question | ToProve) -> object:
+    if isinstance(question, ToProve):
+        return proved_least(question.program, question.wanted, question.seconds)
+    try:
+        return solve(question.program, question.seconds, question.gap)
+    except OutOfTime as fault:
+        return fault

@@ -18,12 +18,11 @@ from ...program.verdicts import Accepted
 from ..accepted import AcceptedNetwork
 from ..budget import Effort, TimeOver
 from ..reduce.simplify import simpler
-from ..search_state import TIME_OVER, TO_THE_END, SearchState, each_stream_has_one
+from ..search_state import TIME_OVER, TO_THE_END, SearchState
 from .ask import SolverAnswer, Solver, answer_with
 from .ladder import Ladder
 from .merge import joined
 from .one_window import as_one
-from .pair_sets import PairSets
 from .parts import Parts
 from .plan import plan_of
 from .slots import Asked, slots_of
@@ -41,13 +40,13 @@ class Search:
     `staged` are those of `SearchState`, which is told to `tell` with each change."""
 
     def __init__(self, pinch: Pinch, case: Case, floor: int, most_cost: Fraction, effort: Effort,
-                 best: AcceptedNetwork | None, tell: Callable[[SearchState], None]) -> None:
+                 best: AcceptedNetwork | None, bound: int, tell: Callable[[SearchState], None]) -> None:
         self.pinch, self.case, self.effort, self.tell = pinch, case, effort, tell
         self.floor, self.most_cost = floor, most_cost
         self.best = best
         self.staged: tuple[int, tuple[int, ...]] | None = None
         self.solver = Solver(effort)
-        self.bound = each_stream_has_one(case)
+        self.bound = bound
 
     def told(self, ended: str | None = None) -> None:
         """Tells how far the search is, and why it ended."""
@@ -78,10 +77,6 @@ class Search:
         for ladder in ladders:
             ladder.begin()
         self.of_windows(ladders)
-        sets = PairSets(self.solver, every, self.most_cost)
-        sets.first(self.effort.seconds / 10)
-        self.bound = max(self.bound, sets.least)
-        self.told()
         if self.enough():
             return
         answer = self.at_least_cost(ladders)

@@ -88,12 +88,14 @@ class Transshipment:
     def add_hot(self, piece: WindowPiece) -> None:
         """What a hot stream has in a band it gives there or further down."""
         rest: int | None = None
+        given = ZERO
         for band in self.bands:
             if band[0] > piece.high:
                 continue
             heat = Fraction(heat_in(piece, band)) / self.model.unit
             terms = self.taken(piece, band) + ([] if rest is None else [(rest, -ONE)])
-            rest = None if band == self.bands[-1] else self.model.variable(ZERO, None)
+            given += heat
+            rest = None if band == self.bands[-1] else self.model.variable(ZERO, given)
             self.model.row(terms + ([] if rest is None else [(rest, ONE)]), heat, heat)
 
     def add_cost(self, most: Fraction) -> None:
