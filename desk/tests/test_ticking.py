@@ -152,7 +152,7 @@ def test_the_same_seed_gives_the_same_networks_by_one_process_or_two(pinch: Pinc
         crew.run(JobRow(search), lambda: search.taken >= jobs, time.monotonic() + 600)
     finally:
         crew.end()
-    assert [judged.network for judged in found][:len(here)] == here
+    assert search.taken == jobs and [judged.network for judged in found] == here
 
 
 def test_what_cannot_be_ticked_off_goes_straight_down(pinch: Pinch) -> None:

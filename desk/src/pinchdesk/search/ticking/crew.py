@@ -33,7 +33,7 @@ class JobCrew:
             if not self.members:
                 job = row.job(number)
                 assert job is not None
-                row.end(number, job.run())
+                row.end(number, job.run(), stops)
                 number += 1
                 continue
             for member in self.members:
@@ -43,7 +43,7 @@ class JobCrew:
                     busy[member] = number
                     number += 1
             for member in self.ready(list(busy), until):
-                row.end(busy.pop(member), member.told(until))
+                row.end(busy.pop(member), member.told(until), stops)
 
     def ready(self, members: Sequence[Child], until: float) -> list[Child]:
         """Those that have said something, once one has; none where it takes too long."""

@@ -232,10 +232,11 @@ class JobRow:
         while len(self.asked) < LAG:
             self.asked.append(self.search.job(self.search.taken + len(self.asked)))
 
-    def end(self, number: int, end: object) -> None:
-        """Notes the end of a job, and takes what may be taken: each in its turn."""
+    def end(self, number: int, end: object, stops: Callable[[], bool] = lambda: False) -> None:
+        """Notes the end of a job, and takes what may be taken: each in its turn, and none once the search stops, though
+        more have ended by then."""
         self.ends[number] = end
-        while self.search.taken in self.ends:
+        while self.search.taken in self.ends and not stops():
             end = self.ends.pop(self.search.taken)
             self.search.take(self.asked.pop(0), end)
             self.fill()
