@@ -9,7 +9,7 @@ from collections.abc import Collection, Generator, Iterable, Iterator
 from contextlib import chdir, redirect_stderr, redirect_stdout
 from dataclasses import dataclass
 from pathlib import Path
-from typing import Any, TypeVar
+from typing import TYPE_CHECKING, Any, TypeVar
 
 import pytest
 from hypothesis import HealthCheck, settings
@@ -20,6 +20,10 @@ from pinchdesk.batch.job import done as done_of
 from pinchdesk.cli.lean_units import load_units_alone
 from pinchdesk.cli.main import main
 from pinchdesk.search.tasks import Task
+
+if TYPE_CHECKING:
+    from live_browser import LivePage, OpenDesk, Opens
+    from selenium.webdriver import Chrome
 
 DESK = Path(__file__).resolve().parents[1]
 EXAMPLES = DESK.parent / 'examples'
@@ -167,3 +171,45 @@ def without_curves(monkeypatch: pytest.MonkeyPatch) -> None:
 @pytest.fixture
 def searched_here(monkeypatch: pytest.MonkeyPatch) -> None:
     search_here(monkeypatch)
+
+
+@pytest.fixture(scope='session')
+def driver() -> Iterator[Chrome]:
+    """A browser, for all tests of the live page."""
+    from live_browser import browser
+    with browser() as found:
+        yield found
+
+
+@pytest.fixture
+def opens(driver: Chrome) -> Iterator[Opens]:
+    """Opens files on a live desk, and its page; the desk is ended behind the test."""
+    from live_browser import LivePage, open_desk
+    opened: list[OpenDesk] = []
+
+    def open_page(case: Path, network: Path | None = None, *words: str) -> tuple[LivePage, OpenDesk]:
+        opened.append(open_desk(case, network, *words))
+        return LivePage(driver).go(opened[-1].address), opened[-1]
+
+    yield open_page
+    driver.get('about:blank')
+    for desk in opened:
+        desk.kill()
+
+
+@pytest.fixture
+def desk(tmp_path: Path) -> Iterator[OpenDesk]:
+    """The case tc3 on a live desk, with a network that is not there yet."""
+    from live_browser import open_desk
+    case = tmp_path / 'tc3.csv'
+    case.write_bytes(example('tc3.csv'))
+    found = open_desk(case)
+    yield found
+    found.kill()
+
+
+@pytest.fixture
+def page(driver: Chrome, desk: OpenDesk) -> Iterator[LivePage]:
+    from live_browser import LivePage
+    yield LivePage(driver).go(desk.address)
+    driver.get('about:blank')

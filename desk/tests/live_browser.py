@@ -14,6 +14,7 @@ from dataclasses import dataclass
 from pathlib import Path
 from typing import TypeVar
 
+import pytest
 from selenium.common.exceptions import StaleElementReferenceException
 from selenium.webdriver import ActionChains, Chrome, ChromeOptions
 from selenium.webdriver.chrome.service import Service
@@ -21,12 +22,15 @@ from selenium.webdriver.common.by import By
 from selenium.webdriver.common.keys import Keys
 from selenium.webdriver.remote.webelement import WebElement
 
-from conftest import DESK
+from conftest import DESK, EXAMPLES
 
-CHROMIUM, DRIVER = (shutil.which(name) for name in ('chromium', 'chromedriver'))
+CHROMIUM, CHROMEDRIVER = (shutil.which(name) for name in ('chromium', 'chromedriver'))
 WAIT, COLOURS = 20.0, 64
 WORDS = ('--headless=new', '--no-sandbox', '--disable-gpu', '--disable-dev-shm-usage')
 Found = TypeVar('Found')
+NEEDS_BROWSER = [pytest.mark.skipif(not CHROMIUM or not CHROMEDRIVER,
+                                    reason='no chromium and chromedriver to show the page'),
+                 pytest.mark.xdist_group('browser')]
 # The marks that the page sets: the last one of each name.
 LAST = "const last = name => performance.getEntriesByName(name).pop()?.startTime ?? 0;"
 LATER = LAST + "return last('painted') > last('answered') && last('answered') > last('asked')"
@@ -42,7 +46,7 @@ def browser(*words: str, size: str = '1500,960') -> Iterator[Chrome]:
     for word in (*WORDS, f'--window-size={size}', *words):
         options.add_argument(word)
     options.set_capability('goog:loggingPrefs', {'browser': 'ALL'})
-    driver = Chrome(service=Service(str(DRIVER)), options=options)
+    driver = Chrome(service=Service(str(CHROMEDRIVER)), options=options)
     try:
         yield driver
     finally:
@@ -67,9 +71,11 @@ class OpenDesk:
         self.process.wait(timeout=WAIT)
 
 
-def open_desk(case: Path, network: Path) -> OpenDesk:
-    """Opens a case and a network, without a browser."""
-    words = [sys.executable, str(DESK / 'pinchdesk'), 'open', str(case), str(network), '--no-browser']
+def open_desk(case: Path, network: Path | None = None, *more: str) -> OpenDesk:
+    """Opens a case and a network, that beside it unless another one is given, without a browser."""
+    given = [str(network)] if network else []
+    words = [sys.executable, str(DESK / 'pinchdesk'), 'open', str(case), *given, '--no-browser', *more]
+    network = network or case.with_name(f'{case.stem}-network.txt')
     process = subprocess.Popen(words, stdout=subprocess.PIPE, stdin=subprocess.DEVNULL, text=True, env=dict(os.environ))
     assert process.stdout is not None
     for line in process.stdout:
@@ -77,6 +83,13 @@ def open_desk(case: Path, network: Path) -> OpenDesk:
         if found:
             return OpenDesk(process, found.group(), case, network)
     raise AssertionError(f'no address was printed; status {process.wait()}')
+
+
+def copied(folder: Path, name: str = 'tc3') -> Path:
+    """The case of an example in a folder, with its published network beside it."""
+    for ending in ('.csv', '-network.txt'):
+        shutil.copy(EXAMPLES / f'{name}{ending}', folder)
+    return folder / f'{name}.csv'
 
 
 @dataclass(frozen=True)
@@ -214,3 +227,7 @@ class LivePage:
         """What went wrong in scripts or was kept from loading; a question about a state that is no more is no fault."""
         return [str(entry['message']) for entry in self.driver.get_log('browser')
                 if entry['level'] == 'SEVERE' and '409 (Conflict)' not in str(entry['message'])]
+
+
+# Opens a case, a network or that beside it, with further words of the command.
+Opens = Callable[..., tuple[LivePage, OpenDesk]]

@@ -77,8 +77,17 @@ def test_a_table_is_read_and_its_case_kept_where_it_is_said(tmp_path: Path) -> N
     assert (tmp_path / 'table.csv').read_bytes() == (EXAMPLES / 'table.csv').read_bytes()
 
 
+@pytest.mark.long
+def test_a_table_is_opened_and_the_page_asks_where_its_case_is_kept(tmp_path: Path) -> None:
+    """In the units of the table, unless others are said."""
+    shutil.copy(EXAMPLES / 'table.csv', tmp_path)
+    with running(tmp_path, 'table.csv', '-d', '10') as (_, port, token):
+        assert status_of(port, f'{token}view') == 200
+        assert [path.name for path in tmp_path.iterdir()] == ['table.csv']
+
+
 @pytest.mark.parametrize('words, told', [
-    (['table.csv'], 'say with --case where the case is kept'), (['tc3.csv', '--case', 'x.csv'], '--case is for tables'),
+    (['tc3.csv', '--case', 'x.csv'], '--case is for tables'),
     (['table.csv', '--case', 'tc3.csv'], 'is there already'), (['nothing.csv'], 'there is no such file'),
     (['tc3.csv', 'tc3.csv'], 'two answers would go there')])
 def test_what_it_refuses(words: list[str], told: str, tmp_path: Path) -> None:

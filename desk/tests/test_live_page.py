@@ -1,9 +1,6 @@
 """The live page in a real browser: a network is made by hand, by pointer and by keys, and judged at each step."""
 from __future__ import annotations
 
-import shutil
-from collections.abc import Iterator
-from itertools import product
 from pathlib import Path
 
 import pytest
@@ -13,38 +10,14 @@ from conftest import EXAMPLES, pinchdesk
 pytest.importorskip('selenium', reason='no selenium to lead a browser')
 pytest.importorskip('uvicorn', reason='no uvicorn to serve the page')
 
-from selenium.webdriver import ActionChains, Chrome  # noqa: E402
+from selenium.webdriver import ActionChains  # noqa: E402
 from selenium.webdriver.common.actions.action_builder import ActionBuilder  # noqa: E402
 from selenium.webdriver.common.by import By  # noqa: E402
 from selenium.webdriver.common.keys import Keys  # noqa: E402
 
-from live_browser import CHROMIUM, DRIVER, LivePage, OpenDesk, browser, open_desk  # noqa: E402
+from live_browser import NEEDS_BROWSER, LivePage, OpenDesk, Opens, copied  # noqa: E402
 
-pytestmark = [pytest.mark.skipif(not CHROMIUM or not DRIVER, reason='no chromium and chromedriver to show the page'),
-              pytest.mark.xdist_group('browser')]
-START = '# nothing is placed yet\n'
-
-
-@pytest.fixture(scope='module')
-def driver() -> Iterator[Chrome]:
-    with browser() as found:
-        yield found
-
-
-@pytest.fixture
-def desk(tmp_path: Path) -> Iterator[OpenDesk]:
-    """The case tc3, with a network that is not there yet."""
-    case = tmp_path / 'tc3.csv'
-    shutil.copy(EXAMPLES / 'tc3.csv', case)
-    found = open_desk(case, tmp_path / 'tc3-network.txt')
-    yield found
-    found.kill()
-
-
-@pytest.fixture
-def page(driver: Chrome, desk: OpenDesk) -> Iterator[LivePage]:
-    yield LivePage(driver).go(desk.address)
-    driver.get('about:blank')
+pytestmark = NEEDS_BROWSER
 
 
 def place_rest(page: LivePage) -> None:
@@ -184,20 +157,14 @@ def test_tc3_by_keys_alone(page: LivePage, desk: OpenDesk) -> None:
 
 
 @pytest.mark.long
-def test_the_published_network_of_four_streams_is_made_in_five_gestures(driver: Chrome, tmp_path: Path) -> None:
-    shutil.copy(EXAMPLES / 'four-stream.csv', tmp_path)
-    desk = open_desk(tmp_path / 'four-stream.csv', tmp_path / 'network.txt')
-    try:
-        page = LivePage(driver).go(desk.address)
-        for source, target in ((('H2', '240'), ('C3', '240')), (('H4', '90'), ('C1', '110')),
-                               (('H2', '90'), ('C1', '120')), (('H4', '90'), ('C1', '30'))):
-            page.place(source, target)
-        page.button('Serve the rest', '#score').click()
-        page.says('Accepted', '20 kW')
-        assert exchanged(desk.network) == exchanged(EXAMPLES / 'four-stream-network.txt')
-    finally:
-        driver.get('about:blank')
-        desk.kill()
+def test_the_published_network_of_four_streams_is_made_in_five_gestures(opens: Opens, tmp_path: Path) -> None:
+    page, desk = opens(copied(tmp_path, 'four-stream'), tmp_path / 'network.txt')
+    for source, target in ((('H2', '240'), ('C3', '240')), (('H4', '90'), ('C1', '110')),
+                           (('H2', '90'), ('C1', '120')), (('H4', '90'), ('C1', '30'))):
+        page.place(source, target)
+    page.button('Serve the rest', '#score').click()
+    page.says('Accepted', '20 kW')
+    assert exchanged(desk.network) == exchanged(EXAMPLES / 'four-stream-network.txt')
 
 
 def exchanged(network: Path) -> list[list[str]]:
@@ -257,40 +224,6 @@ def test_a_page_that_is_loaded_again_is_the_same(page: LivePage, desk: OpenDesk)
 
 
 @pytest.mark.long
-def test_two_windows_follow_each_other(page: LivePage, desk: OpenDesk) -> None:
-    with browser() as second:
-        other = LivePage(second).go(desk.address)
-        page.place(('S1', '120'), ('S3', '137.5'))
-        other.until(lambda: len(other.exchangers()) == 1)
-        other.place(('S2', '240'), ('S4', '135'))
-        page.until(lambda: len(page.exchangers()) == 2)
-
-
-@pytest.mark.long
-def test_a_change_from_outside_is_shown_as_a_step(page: LivePage, desk: OpenDesk) -> None:
-    shutil.copy(EXAMPLES / 'tc3-network.txt', desk.network)
-    page.until(lambda: len(page.exchangers()) == 7)
-    page.says('Accepted')
-    page.undo()
-    page.until(lambda: page.exchangers() == [])
-
-
-@pytest.mark.long
-def test_a_desk_that_is_gone_is_told_and_nothing_is_lost(page: LivePage, desk: OpenDesk) -> None:
-    page.place(('S1', '120'), ('S3', '137.5'))
-    text = desk.network.read_bytes()
-    desk.kill()
-    page.until(lambda: 'does not answer' in page.text('#lost'))
-    assert desk.network.read_bytes() == text
-    again = open_desk(desk.case, desk.network)
-    try:
-        page.go(again.address)
-        assert len(page.exchangers()) == 1
-    finally:
-        again.kill()
-
-
-@pytest.mark.long
 def test_a_search_goes_on_from_here_and_pictures_open_beside(page: LivePage, desk: OpenDesk) -> None:
     place_rest(page)
     page.one('#rest summary').click()
@@ -313,116 +246,21 @@ return at.scrollTop + at.clientHeight > at.scrollHeight - 2'''
 
 
 @pytest.mark.long
-def test_a_drag_reaches_what_is_out_of_sight(driver: Chrome, tmp_path: Path) -> None:
+def test_a_drag_reaches_what_is_out_of_sight(opens: Opens, tmp_path: Path) -> None:
     """A large diagram scrolls inside, and by itself where something is dragged to its edge."""
-    shutil.copy(EXAMPLES / 'crude.csv', tmp_path)
-    desk = open_desk(tmp_path / 'crude.csv', tmp_path / 'network.txt')
-    try:
-        page = LivePage(driver).go(desk.address)
-        bottom = driver.execute_script('return document.querySelector("#grid .wide").getBoundingClientRect().bottom')
-        assert page.middle(page.piece('CR1', '32550'))[1] > bottom
-        _, y = page.middle(page.piece('KERO', '4620'))
-        ActionChains(driver, duration=20).move_to_element(page.piece('KERO', '4620')).click_and_hold() \
-            .move_by_offset(0, 20).move_by_offset(0, int(bottom - 8 - y - 20)).perform()
-        page.until(lambda: bool(driver.execute_script(SCROLLED)))
-        x, y = page.middle(page.piece('CR1', '32550'))
-        assert y < bottom - 60
-        chain = ActionBuilder(driver)
-        chain.pointer_action.move_to_location(int(x), int(y)).pointer_up()
-        chain.perform()
-        page.until(lambda: len(page.exchangers()) == 1)
-    finally:
-        driver.get('about:blank')
-        desk.kill()
-
-
-@pytest.mark.long
-def test_nothing_is_wider_than_the_window(driver: Chrome, tmp_path: Path) -> None:
-    """In narrow windows, and with letters of twice the size, all can be reached without scrolling to the side."""
-    desk, page, wider = opened_example(tmp_path), LivePage(driver), []
-    try:
-        for letters, width in product((16, 32), (400, 620, 900, 1180, 1500)):
-            driver.set_window_size(width, 900)
-            driver.execute_cdp_cmd('Page.setFontSizes', {'fontSizes': {'standard': letters, 'fixed': letters}})
-            page.go(desk.address).choose('E4')
-            page.until(lambda: page.all('#ways .ways'))
-            if driver.execute_script('const page = document.documentElement;'
-                                     'return page.scrollWidth > page.clientWidth'):
-                wider.append((letters, width))
-        assert not wider
-    finally:
-        driver.execute_cdp_cmd('Page.setFontSizes', {'fontSizes': {'standard': 16, 'fixed': 13}})
-        driver.set_window_size(1500, 960)
-        driver.get('about:blank')
-        desk.kill()
-
-
-LONG_NUMBERS = """#units,°F,Btu/h,65941/225000,10,0,1
-contribution,,50,,,,
-hot,H1,2600,1600,3000,,
-cold,C1,1200,2350,123456,,
-"""
-
-
-@pytest.mark.long
-def test_no_number_of_a_cell_is_cut(driver: Chrome, tmp_path: Path) -> None:
-    """A number that has lost its last digit reads as another one."""
-    (tmp_path / 'case.csv').write_text(LONG_NUMBERS, encoding='utf-8')
-    desk = open_desk(tmp_path / 'case.csv', tmp_path / 'network.txt')
-    try:
-        page = LivePage(driver).go(desk.address)
-        page.until(lambda: page.all('.cells input'))
-        cut = driver.execute_script("return [...document.querySelectorAll('.cells input')]"
-                                    ".filter(cell => cell.scrollWidth > cell.clientWidth).map(cell => cell.value)")
-        assert cut == []
-        assert '1234560' in [cell.get_attribute('value') for cell in page.all('.cells input')]
-    finally:
-        driver.get('about:blank')
-        desk.kill()
-
-
-def opened_example(folder: Path, name: str = 'tc3') -> OpenDesk:
-    """A case with its published network."""
-    for ending in ('.csv', '-network.txt'):
-        shutil.copy(EXAMPLES / f'{name}{ending}', folder)
-    return open_desk(folder / f'{name}.csv', folder / f'{name}-network.txt')
-
-
-SPOKEN = {'button', 'textbox', 'slider', 'combobox', 'spinbutton', 'img', 'DisclosureTriangle'}
-
-
-@pytest.mark.long
-def test_a_screen_reader_has_a_name_for_all_that_can_be_done(driver: Chrome, tmp_path: Path) -> None:
-    """What the browser tells a screen reader: each control with its own name, the verdict as what changes."""
-    desk = opened_example(tmp_path)
-    try:
-        page = LivePage(driver).go(desk.address)
-        page.choose('E4')
-        page.until(lambda: page.all('#ways .ways'))
-        tree = driver.execute_cdp_cmd('Accessibility.getFullAXTree', {})['nodes']
-        nodes = [(node['role']['value'], node.get('name', {}).get('value', '')) for node in tree
-                 if not node['ignored'] and 'role' in node]
-        assert not [role for role, name in nodes if role in SPOKEN and not name.strip()]
-        names = {name for _, name in nodes}
-        assert ('status', '') in nodes and 'Grid diagram' in names
-        assert 'exchanger E4, S1 to S3, 20 kW, below the pinch' in names
-        assert 'parting of S2: 43.75 %, 56.25 %' in names
-        assert {'supply of S1', 'duty of E4 in kW', 'least approach ΔTmin', 'remove S1'} <= names
-        assert any(name.startswith('Composite curves: utilities hot 107.5 kW, cold 40 kW') for name in names)
-    finally:
-        driver.get('about:blank')
-        desk.kill()
-
-
-@pytest.mark.long
-def test_a_finger_places_an_exchanger(page: LivePage) -> None:
-    source, target = (page.middle(page.piece(*named)) for named in (('S1', '120'), ('S3', '137.5')))
-    touches: list[tuple[str, list[tuple[float, float]]]] = [
-        ('touchStart', [source]), ('touchMove', [(source[0] + 9, source[1] + 9)]), ('touchMove', [target]),
-        ('touchEnd', [])]
-    for kind, points in touches:
-        page.driver.execute_cdp_cmd('Input.dispatchTouchEvent', {
-            'type': kind, 'touchPoints': [{'x': x, 'y': y} for x, y in points]})
+    page, _ = opens(copied(tmp_path, 'crude'), tmp_path / 'network.txt')
+    driver = page.driver
+    bottom = driver.execute_script('return document.querySelector("#grid .wide").getBoundingClientRect().bottom')
+    assert page.middle(page.piece('CR1', '32550'))[1] > bottom
+    _, y = page.middle(page.piece('KERO', '4620'))
+    ActionChains(driver, duration=20).move_to_element(page.piece('KERO', '4620')).click_and_hold() \
+        .move_by_offset(0, 20).move_by_offset(0, int(bottom - 8 - y - 20)).perform()
+    page.until(lambda: bool(driver.execute_script(SCROLLED)))
+    x, y = page.middle(page.piece('CR1', '32550'))
+    assert y < bottom - 60
+    chain = ActionBuilder(driver)
+    chain.pointer_action.move_to_location(int(x), int(y)).pointer_up()
+    chain.perform()
     page.until(lambda: len(page.exchangers()) == 1)
 
 
@@ -436,49 +274,38 @@ def test_a_gesture_is_painted_soon(page: LivePage) -> None:
 
 
 @pytest.mark.long
-def test_a_hostile_name_is_only_a_name(driver: Chrome, tmp_path: Path) -> None:
-    """Names that a case can have, and what a file may be called."""
-    case = tmp_path / '<img src=x onerror=alert(1)>&"\'.csv'
-    text = (EXAMPLES / 'tc3.csv').read_text(encoding='utf-8')
-    case.write_text(text.replace('S1', '<b>S1</b>').replace('S3', 'S"3\'&amp;'), encoding='utf-8')
-    desk = open_desk(case, tmp_path / 'network.txt')
-    try:
-        page = LivePage(driver).go(desk.address)
-        assert '<img src=x onerror=alert(1)>' in page.text('#files')
-        assert not page.all('img') and not page.all('#grid b')
-        assert not page.errors()
-    finally:
-        driver.get('about:blank')
-        desk.kill()
+def test_an_end_is_moved_by_keys_and_by_a_drag(page: LivePage, desk: OpenDesk) -> None:
+    """Each place with what it costs before it is taken."""
+    page.place(('S1', '120'), ('S3', '137.5'))
+    page.driver.execute_script('arguments[0].focus()', page.exchanger('E1'))
+    page.press('e')
+    page.until(lambda: page.focused() == 'move 0')
+    page.until(lambda: page.all('.piece.partner'))
+    page.until(lambda: 'costs' in page.text('.offers'))
+    page.tab_to('S4')
+    page.press(Keys.ENTER)
+    page.until(lambda: any('E1, S1 to S4' in name for name in page.names()))
+    page.drag(page.one('[data-exchanger=E1] [data-end=cold]'), page.piece('S3', '137.5'), drop=False)
+    page.until(lambda: 'move this end of E1 here' in page.text('#hint') and 'costs' in page.text('#hint'))
+    ActionChains(page.driver).release().perform()
+    page.until(lambda: 'exchanger E1 S1 S3 90000' in desk.network.read_text(encoding='utf-8'))
+    assert not page.errors()
 
 
 @pytest.mark.long
-def test_a_foreign_page_that_knows_the_address_can_do_nothing(driver: Chrome, desk: OpenDesk, tmp_path: Path) -> None:
-    """It can neither read nor write nor frame it, from a file or from another port."""
-    foreign = tmp_path / 'foreign.html'
-    foreign.write_text(f'''<!DOCTYPE html><title>foreign</title><iframe id="frame" src="{desk.address}"></iframe>
-<script>
-const told = [];
-const gesture = {{version: 1, gesture: {{kind: 'finish'}}}};
-const tries = [
-  fetch('{desk.address}view').then(answer => answer.text()),
-  fetch('{desk.address}gesture', {{method: 'POST', headers: {{'Content-Type': 'application/json'}},
-    body: JSON.stringify(gesture)}}).then(answer => answer.text()),
-  fetch('{desk.address}gesture', {{method: 'POST', mode: 'no-cors', body: JSON.stringify(gesture)}})
-    .then(answer => answer.type === 'opaque' ? '' : answer.text()),
-  new Promise((read, shut) => {{
-    const line = new WebSocket('{desk.address}changes'.replace('http', 'ws'));
-    line.onmessage = event => read('read ' + event.data);
-    line.onclose = () => shut('shut');
-  }}),
-];
-Promise.allSettled(tries).then(all => {{ document.title = JSON.stringify(all.map(one => one.value || '')); }});
-</script>''', encoding='utf-8')
-    driver.get(foreign.as_uri())
-    page = LivePage(driver)
-    page.until(lambda: str(driver.title).startswith('['))
-    assert driver.title == '["","","",""]'
-    driver.switch_to.frame('frame')
-    assert not driver.find_elements(By.CSS_SELECTOR, '#grid')
-    driver.switch_to.default_content()
-    assert not desk.network.exists() or 'open-' in desk.network.read_text(encoding='utf-8')
+def test_exchangers_against_cost_and_a_network_that_is_taken(page: LivePage, desk: OpenDesk) -> None:
+    page.button('Serve the rest', '#score').click()
+    page.says('Accepted')
+    page.one('#tradeoff summary').click()
+    page.one('#tradeoff input').send_keys(Keys.CONTROL + 'a' + Keys.NULL, '2', Keys.ENTER)
+    page.until(lambda: 'Searching' in page.text('#tradeoff'))
+    page.until(lambda: 'accepted by the audit' in page.text('#tradeoff [role=status]'))
+    assert 'no network costs less' in page.text('#tradeoff tbody tr')
+    buttons = page.all('#tradeoff tbody button')
+    name = str(buttons[-1].get_attribute('aria-label'))
+    count = int(name.split()[4])
+    assert name == f'take the network of {count} exchangers' and count <= 7
+    buttons[-1].click()
+    page.until(lambda: len(page.exchangers()) == count)
+    page.says('Accepted')
+    assert audited(desk) == 'accepted' and f'{count} exchangers' in page.text('#steps [aria-current]')

@@ -182,7 +182,7 @@ def test_a_network_is_searched_from_here_and_drawn(tmp_path: Path) -> None:
         heard = asked(running, 'POST', at(running, 'search'), {'version': version, 'seconds': '3', 'above': '10'})
         assert heard.status == 200 and 'refused' not in heard.json
         view = heard.json['view']
-        assert view['verdict']['kind'] == 'accepted' and view['score']['placed'] <= 7
+        assert view['verdict']['kind'] == 'accepted' and view['score']['placed'] > 3
         assert view['steps'][-1]['text'].startswith('searched')
         wrong = asked(running, 'POST', at(running, 'search'), {'version': view['version'], 'seconds': 'long'})
         assert 'number of seconds' in wrong.json['refused']['text']
@@ -191,3 +191,30 @@ def test_a_network_is_searched_from_here_and_drawn(tmp_path: Path) -> None:
             picture = asked(running, 'GET', at(running, f'picture/{name}.svg'))
             assert picture.status == 200 and picture.headers['content-type'].startswith('image/svg+xml')
             assert b'<svg' in picture.body and b'<script' not in picture.body
+
+
+@pytest.mark.long
+def test_exchangers_against_cost_are_told_and_nothing_is_changed(tmp_path: Path) -> None:
+    with served(bench_of(tmp_path, 'tc3', 'tc3-network.txt')) as running:
+        before = asked(running, 'GET', at(running, 'view')).json
+        version = before['version']
+        table = asked(running, 'POST', at(running, 'tradeoff'), {'version': version, 'seconds': '2'}).json
+        assert table['headings'][:2] == ['exchangers', 'cost price times W'] and table['lines'][0]['gesture'] == {}
+        assert asked(running, 'GET', at(running, 'view')).json == before
+        for line in table['lines'][1:]:
+            gesture = {'version': version, 'gesture': line['gesture']}
+            heard = asked(running, 'POST', at(running, 'gesture'), gesture).json
+            assert heard['view']['verdict']['kind'] == 'accepted', line['cells']
+            version = heard['view']['version']
+        wrong = asked(running, 'POST', at(running, 'tradeoff'), {'version': version, 'seconds': '301'}).json
+        assert 'at most 300 seconds' in wrong['refused']['text']
+        assert asked(running, 'POST', at(running, 'tradeoff'), {'version': 1}).status == 409
+
+
+@pytest.mark.long
+def test_of_a_case_with_costs_there_are_pictures_of_areas(tmp_path: Path) -> None:
+    with served(bench_of(tmp_path, 'reactors-cost', 'reactors-cost-network.txt')) as running:
+        links = [link['name'] for link in asked(running, 'GET', at(running, 'view')).json['links']]
+        assert links == ['report', 'picture/grid.svg', 'picture/curves.svg', 'picture/area.svg', 'picture/driving.svg']
+        for name in links[1:]:
+            assert b'<svg' in asked(running, 'GET', at(running, name)).body, name

@@ -11,12 +11,10 @@ from pathlib import Path
 from typing import TYPE_CHECKING, Any
 
 from ..errors import OutputError, Status, WordsError
+from ..formats.case import is_case
 from ..formats.plain_files import read_bytes
 from ..formats.written_files import check_apart
 from ..program.run import Pinch
-from ..tables.convert import is_case
-from ..words.case_word import CaseOptions, case_text, converted
-from ..words.word import TextFile
 from .standard_streams import put, say
 
 if TYPE_CHECKING:
@@ -34,29 +32,43 @@ def add_open(added: Any) -> None:
                        f'{NEW_CASE} in this folder unless given')
     added.add_argument('network', nargs='?', metavar='NETWORK', help='the network text that is written; '
                        'CASE-network.txt beside the case unless given')
-    added.add_argument('--case', metavar='CASE', help='where the case that is made of a table is kept')
+    added.add_argument('--case', metavar='CASE', help='where the case that is made of a table is kept; unless given, '
+                       'the page asks for it')
     added.add_argument('-d', '--difference', metavar='K', help='the least difference, where a table has none')
+    added.add_argument('--units', choices=('table', 'SI'), default='table', help='the units of the case of a table: '
+                       'those of the table, unless SI is said')
     added.add_argument('--no-browser', action='store_true', help='tell the address alone')
     added.set_defaults(doing=opened)
 
 
 def opened(parsed: Namespace) -> int:
     """Serves the live desk until it is closed."""
-    from ..live.bench import Bench
-    from ..live.own_files import OwnFile, claimed
-    case_path, case = case_of(parsed)
-    network_path = parsed.network or beside(case_path)
-    check_apart([case_path, network_path], [parsed.file] if case else [])
     with ExitStack() as stack:
-        for path in (case_path, network_path):
-            stack.enter_context(claimed(path))
-        bench = Bench(Pinch(), OwnFile(case_path), OwnFile(network_path), case)
-        served = serving(bench)
+        served = serving(bench_of(parsed, stack))
         put(f'The desk is open at {served.address} and ends by Ctrl-C.\n')
         if not parsed.no_browser:
             stack.enter_context(shown_in_browser(served.address))
         served.run()
     return Status.GOOD
+
+
+def bench_of(parsed: Namespace, stack: ExitStack) -> Bench:
+    """The desk over its two files, which are its own as long as the stack is open."""
+    from ..live.bench import Bench
+    from ..live.keeping import Keeper, Unkept, beside
+    from ..live.own_files import OwnFile, claimed
+    case_path, case = case_of(parsed)
+    network_path = parsed.network or (beside(case_path) if case_path else None)
+    paths = [path for path in (case_path, network_path) if path]
+    check_apart(paths, [parsed.file] if case else [])
+    for path in paths:
+        stack.enter_context(claimed(path))
+    if case_path:
+        return Bench(Pinch(), OwnFile(case_path), OwnFile(str(network_path)), case)
+    named = OwnFile(network_path) if network_path else None
+    keeper = Keeper(parsed.file, named)
+    stack.callback(keeper.let_go)
+    return Bench(Pinch(), Unkept(parsed.file), named or Unkept('network'), case, keeper)
 
 
 def serving(bench: Bench) -> Served:
@@ -69,13 +81,9 @@ def serving(bench: Bench) -> Served:
     return Served(bench)
 
 
-def beside(case: str) -> str:
-    """Where the network of a case is kept unless somebody says it."""
-    return str(Path(case).with_name(f'{Path(case).stem}-network.txt'))
-
-
-def case_of(parsed: Namespace) -> tuple[str, bytes | None]:
-    """Where the case is kept; of one that is made of a table also its text, which is not there yet."""
+def case_of(parsed: Namespace) -> tuple[str | None, bytes | None]:
+    """Where the case is kept, None where the page asks for it; of one that is made of a table also its text, which is
+    not there yet."""
     path = parsed.file or NEW_CASE
     if parsed.file is not None and parsed.case is None and not os.path.lexists(path):
         raise WordsError(f'{path}: there is no such file; `pinchdesk open` alone begins with an empty case')
@@ -84,15 +92,19 @@ def case_of(parsed: Namespace) -> tuple[str, bytes | None]:
         if parsed.case is not None:
             raise WordsError(f'--case is for tables, and {path} is a case')
         return path, None
-    if parsed.case is None:
-        raise WordsError(f'{path} is a table, which is only read: say with --case where the case is kept that is made '
-                         'of it, as --case mine.csv')
-    if os.path.lexists(parsed.case):
+    if parsed.case is not None and os.path.lexists(parsed.case):
         raise OutputError(f'{parsed.case}: is there already; to go on with it, open it')
-    table = converted(Pinch(), TextFile(path, content), CaseOptions(parsed.difference).wanted)
+    return parsed.case, case_of_table(path, content, parsed.difference, parsed.units)
+
+
+def case_of_table(path: str, content: bytes, difference: str | None, units: str) -> bytes:
+    """The text of the case that a table is. What reads tables is loaded for one alone."""
+    from ..words.case_word import CaseOptions, case_text, converted
+    from ..words.word import TextFile
+    table = converted(Pinch(), TextFile(path, content), CaseOptions(difference, units=units).wanted)
     for note in table.notes:
         say(f'{path}: {note}')
-    return parsed.case, case_text(table).encode()
+    return case_text(table).encode()
 
 
 @contextmanager

@@ -258,6 +258,15 @@ def read_case(text: str | bytes) -> Case:
     return reader.made(at)
 
 
+def is_case(content: bytes) -> bool:
+    """Whether a file is a case; it is one too where only a comment of the desk is wrong."""
+    try:
+        read_case(content)
+    except Refused as fault:
+        return fault.cause in ('comment', 'segment', 'utility')
+    return True
+
+
 def units_of(text: str | bytes) -> CaseUnits | None:
     """The units of its own that a case says; None where it says none, or none that there can be."""
     try:

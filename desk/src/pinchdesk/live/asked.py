@@ -20,7 +20,7 @@ from .pieces import HandPlan
 from .seats import Seat
 from .ways import break_way, shift, way_named
 
-LONGEST = 8_000_000
+LONGEST, LONGEST_STEP = 8_000_000, 200
 
 
 @dataclass(frozen=True)
@@ -173,7 +173,7 @@ def join(known: Known, fields: Fields) -> tuple[HandPlan, str]:
 
 def move(known: Known, fields: Fields) -> tuple[HandPlan, str]:
     name, piece = fields.text('exchanger'), fields.text('piece')
-    made = gestures.move_end(planned(known), name, piece, known.whole.pinches if known.whole else ())
+    made = gestures.move_end(planned(known, True), name, piece)
     return made, f'{name}: {"–".join(made.pairs[name])}'
 
 
@@ -277,7 +277,7 @@ def texts(known: Known, fields: Fields) -> Made:
         raise NotDone('There is no text, or it is too long.')
     snapshot = Snapshot(case if isinstance(case, str) else known.snapshot.case,
                         network if isinstance(network, str) else known.snapshot.network)
-    return Made(snapshot, 'text edited')
+    return Made(snapshot, (fields.maybe('told') or 'text edited')[:LONGEST_STEP])
 
 
 ON_TEXTS: dict[str, Callable[[Known, Fields], Made]] = {

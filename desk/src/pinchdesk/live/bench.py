@@ -16,12 +16,13 @@ from .asked import Fields, Made, made_by
 from .case_lines import with_difference
 from .gestures import NotDone
 from .judgement import Whole, judged_stand
+from .keeping import Keeper
 from .known import Knowing, Known, Snapshot, as_content, as_text, begun, completed_live, told
-from .offers import offers_of
+from .offers import moves_of, offers_of
 from .network_view import Standing, judgement_of
 from .own_files import ChangedOutside, OwnFile
 from .seen import seen, slid
-from .view import FileNames, Mark, Offer, Refusal, Slider, StepMade, View, WayOffer
+from .view import FileNames, Mark, Offer, Refusal, Slider, StepMade, TradeoffTable, View, WayOffer
 from .ways import told_ways, ways_of
 
 MOST_STEPS, MOST_VIEWS, LONGEST_SEARCH = 500, 50, 300
@@ -40,15 +41,17 @@ class GestureDone:
 class Bench:
     """Both files with their steps; one gesture at a time."""
 
-    def __init__(self, pinch: Pinch, case_file: OwnFile, network_file: OwnFile, case: bytes | None = None) -> None:
+    def __init__(self, pinch: Pinch, case_file: OwnFile, network_file: OwnFile, case: bytes | None = None,
+                 keeper: Keeper | None = None) -> None:
         """Opens both files. A case that was made of a table is given by its text: it is written with the first
-        gesture."""
+        gesture, or where it is not said yet where, once the page has said it to the keeper."""
         self.knowing = Knowing(pinch)
         self.case_file, self.network_file = case_file, network_file
         self.lock = threading.RLock()
         self.version = 1
         self.views: OrderedDict[Snapshot, View] = OrderedDict()
-        self.saved = 'saved'
+        self.keeper, self.is_kept = keeper, keeper is None
+        self.saved = 'saved' if self.is_kept else 'not kept yet'
         kept = case_file.taken()
         text = as_text(case if case is not None else kept if kept is not None else EMPTY_CASE.encode())
         self.steps = [Made(Snapshot(text, self.network_of(text)), 'opened')]
@@ -77,7 +80,8 @@ class Bench:
             while len(self.views) > MOST_VIEWS:
                 self.views.popitem(last=False)
         steps = tuple(StepMade(step.told, number == self.at) for number, step in enumerate(self.steps))
-        return replace(self.views[snapshot], version=self.version, files=FileNames(*self.titles, self.saved),
+        offered = self.keeper.names() if self.keeper and not self.is_kept else ()
+        return replace(self.views[snapshot], version=self.version, files=FileNames(*self.titles, self.saved, offered),
                        steps=steps, can_undo=self.at > 0, can_redo=self.at < len(self.steps) - 1)
 
     def gesture(self, version: object, gesture: Mapping[str, object]) -> GestureDone:
@@ -95,6 +99,11 @@ class Bench:
             return GestureDone(self.shown())
 
     def do(self, kind: str, fields: Fields) -> None:
+        if kind == 'keep':
+            self.keep(fields.text('name'))
+            return
+        if not self.is_kept:
+            raise NotDone('Say first where the case is kept.')
         if kind in ('undo', 'redo', 'step'):
             self.go(self.target_of(kind, fields))
             return
@@ -107,6 +116,21 @@ class Bench:
         if len(self.steps) > MOST_STEPS:
             del self.steps[1]
         self.at = len(self.steps) - 1
+        self.version += 1
+
+    def keep(self, name: str) -> None:
+        """Writes both files beside the table, the case by this name, and keeps them from now on."""
+        keeper, before = self.keeper, (self.case_file, self.network_file)
+        if keeper is None or self.is_kept:
+            raise NotDone('It is said already where the case is kept.')
+        self.case_file, self.network_file = keeper.files(name)
+        try:
+            self.write(self.steps[self.at].snapshot)
+        except NotDone:
+            keeper.let_go()
+            self.case_file, self.network_file = before
+            raise
+        self.is_kept = True
         self.version += 1
 
     def target_of(self, kind: str, fields: Fields) -> int:
@@ -141,8 +165,7 @@ class Bench:
             try:
                 self.network_file.save(snapshot.network_bytes)
             except (ChangedOutside, OutputError):
-                if before is not None and before != self.case_file.content:
-                    self.case_file.save(before)
+                self.case_file.take_back(before)
                 raise
         except (ChangedOutside, OutputError) as fault:
             self.saved = f'not saved: {fault}'
@@ -171,6 +194,17 @@ class Bench:
             self.steps[self.at + 1:] = [Made(made, 'changed outside')]
             self.at += 1
         self.version += 1
+
+    def moves(self, version: object, exchanger: str) -> tuple[Offer, ...] | GestureDone:
+        """Where the ends of an exchanger of what the page saw can be moved to."""
+        with self.lock:
+            if version != self.version:
+                return GestureDone(self.shown(), stale=True)
+            known = self.now
+        try:
+            return moves_of(self.knowing.pinch, known.cut_plan(), exchanger, known.reach) if known.plan else ()
+        except NotDone as fault:
+            return GestureDone(self.view(), Refusal(str(fault)))
 
     def offers(self, version: object, piece: str) -> tuple[Offer, ...] | GestureDone:
         """The offers for a piece of what the page saw."""
@@ -230,17 +264,22 @@ class Bench:
                 return GestureDone(self.shown(), stale=True)
             known = self.now
         try:
-            if seconds_of(options.get('seconds', '10')) > LONGEST_SEARCH:
-                raise NotDone(f'Here a search takes at most {LONGEST_SEARCH} seconds.')
-            text, told_of = searched(known, self.titles, {'seconds': '10', **options})
+            text, told_of = searched(known, self.titles, timed(options))
         except DeskError as fault:
             return GestureDone(self.view(), Refusal(told(fault)))
-        done = self.gesture(version, {'kind': 'texts', 'network': text})
-        if done.refused is None and not done.stale:
-            with self.lock:
-                self.steps[self.at] = replace(self.steps[self.at], told=f'searched: {told_of}'.rstrip(': '))
-                return GestureDone(self.shown())
-        return done
+        return self.gesture(version, {'kind': 'texts', 'network': text, 'told': f'searched: {told_of}'.rstrip(': ')})
+
+    def tradeoff(self, version: object, options: dict[str, str]) -> TradeoffTable | GestureDone:
+        """Exchangers against cost, from what the page saw; nothing is written."""
+        from .other_words import traded
+        with self.lock:
+            if version != self.version:
+                return GestureDone(self.shown(), stale=True)
+            known = self.now
+        try:
+            return traded(known, self.titles, timed(options))
+        except DeskError as fault:
+            return GestureDone(self.view(), Refusal(told(fault)))
 
     def slider(self, version: object, difference: str) -> Slider | GestureDone:
         """Targets and curves at another least approach; nothing is written."""
@@ -256,3 +295,10 @@ class Bench:
             return slid(whole, area_targets(self.knowing.pinch, whole), self.network_at(known, whole, text))
         except DeskError as fault:
             return GestureDone(self.view(), Refusal(told(fault)))
+
+
+def timed(options: dict[str, str]) -> dict[str, str]:
+    """The options of a search, which takes 10 s unless they say it; `NotDone` where that is too long."""
+    if seconds_of(options.get('seconds', '10')) > LONGEST_SEARCH:
+        raise NotDone(f'Here a search takes at most {LONGEST_SEARCH} seconds.')
+    return {'seconds': '10', **options}

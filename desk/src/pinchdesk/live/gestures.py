@@ -14,7 +14,7 @@ from ..formats.case import ANY_HEAT, Side, Utility
 from ..formats.shown import Shown
 from ..search.reduce.structure import Course, Lane, Parting, Through, throughs
 from .kinks import joined_with, placed_along
-from .pieces import (HandPlan, changed, cut, fresh_open, merged, named, neighbours, pair_with, replaced,
+from .pieces import (HandPlan, changed, fresh_open, merged, named, neighbours, pair_with, replaced,
                      side_at, without_idle_partings)
 from .seats import Seat, seated, seatings, settled
 
@@ -82,20 +82,30 @@ def take_away(plan: HandPlan, exchanger: str) -> HandPlan:
 
 def opened(plan: HandPlan, exchanger: str) -> HandPlan:
     """A plan in which an exchanger is an open piece on each of its streams; lanes that nothing serves are one again."""
+    parted, pieces = lifted(plan, exchanger)
+    return merged(without_idle_lanes(parted, frozenset(pieces.values())))
+
+
+def lifted(plan: HandPlan, exchanger: str) -> tuple[HandPlan, dict[Side, str]]:
+    """A plan in which an open piece of its own stands in the place of each end of an exchanger, and these pieces."""
     duties, pairs, courses = dict(plan.duties), dict(plan.pairs), dict(plan.structure.courses)
-    taken, made = set(plan.pairs), set()
+    taken, made = set(plan.pairs), dict[Side, str]()
     for stream in plan.streams_of(exchanger):
         piece = fresh_open(taken)
         taken.add(piece)
-        made.add(piece)
+        made[stream.side] = piece
         utility = next(utility.name for utility in plan.case.utilities if utility.side is not stream.side)
         pairs[piece], duties[piece] = pair_with(stream, utility), plan.duties[exchanger]
         courses[stream.name] = replaced(courses[stream.name], exchanger, (Through(piece),))
-    parted = changed(plan, courses, pairs, duties)
-    duties = dict(parted.duties)
-    courses = {name: without_idle_partings(parted, course, frozenset(made), duties)
-               for name, course in parted.structure.courses.items()}
-    return merged(changed(parted, courses, duties=duties))
+    return changed(plan, courses, pairs, duties), made
+
+
+def without_idle_lanes(plan: HandPlan, pieces: frozenset[str]) -> HandPlan:
+    """A plan in which lanes beside one of these pieces that nothing serves are one again."""
+    duties = dict(plan.duties)
+    courses = {name: without_idle_partings(plan, course, pieces, duties)
+               for name, course in plan.structure.courses.items()}
+    return changed(plan, courses, duties=duties)
 
 
 def with_duty(plan: HandPlan, exchanger: str, duty: Fraction, pinches: Sequence[PinchPoint]) -> HandPlan:
@@ -292,32 +302,23 @@ def join(plan: HandPlan, joint: str) -> HandPlan:
     return settled(changed(plan, {stream: with_parting(plan.structure.courses[stream], parting, course)}))
 
 
-def move_end(plan: HandPlan, exchanger: str, piece: str, pinches: Sequence[PinchPoint]) -> HandPlan:
-    """The end of an exchanger on the side of a piece is moved to there, with its duty or as much of it as goes there;
-    the other end keeps its place."""
+def move_end(plan: HandPlan, exchanger: str, piece: str) -> HandPlan:
+    """A plan that is cut in which the end of an exchanger on the side of a piece is moved to there, with its duty or as
+    much of it as goes there. The other end keeps its place, but for what it has less then."""
     side = plan.piece(open_piece(plan, piece)).stream.side
-    streams = {stream.side: stream for stream in plan.streams_of(known(plan, exchanger))}
-    if len(streams) < 2:
+    if len(plan.streams_of(known(plan, exchanger))) < 2:
         raise NotDone(f'{exchanger} is no exchanger between two streams.', ('exchanger', exchanger))
-    kept = streams[Side.COLD if side is Side.HOT else Side.HOT]
-    without = cut(opened(plan, exchanger), pinches)
-    where = plan.reaches[exchanger, kept.side]
-    stay = [name for name in without.open if without.piece(name).stream.name == kept.name
-            and overlap(without, name, where.inlet, where.outlet)]
-    if piece not in without.pairs or not stay:
-        raise NotDone(f'{exchanger} cannot be moved there.', ('exchanger', exchanger), ('piece', piece))
-    hot, cold = (piece, stay[0]) if side is Side.HOT else (stay[0], piece)
+    if len(joined_with(plan, exchanger)) > 1:
+        raise NotDone(f'{exchanger} goes on across a kink: take it away, and place it anew.', ('exchanger', exchanger))
+    without, left = lifted(plan, exchanger)
+    cleared = without_idle_lanes(without, frozenset((left[side],)))
+    without = cleared if piece in cleared.pairs else without
+    hot, cold = (piece, left[Side.COLD]) if side is Side.HOT else (left[Side.HOT], piece)
     found = list(seatings(without, hot, cold, plan.duties[exchanger]))
     if not found:
-        raise NotDone(f'{exchanger} would be too close to the approach there.', ('exchanger', exchanger))
+        raise NotDone(f'{exchanger} would come too close there, or its streams may not exchange heat.',
+                      ('exchanger', exchanger), ('piece', piece))
     return seated(without, max(found, key=lambda chosen: chosen.duty), exchanger)
-
-
-def overlap(plan: HandPlan, piece: str, inlet: Fraction, outlet: Fraction) -> bool:
-    """Whether a piece has something of a range."""
-    reach = plan.piece(piece)
-    return max(min(reach.inlet, reach.outlet), min(inlet, outlet)) <= min(max(reach.inlet, reach.outlet),
-                                                                          max(inlet, outlet))
 
 
 def rename(plan: HandPlan, exchanger: str, name: str) -> HandPlan:

@@ -4,6 +4,7 @@ from __future__ import annotations
 
 from collections.abc import Iterator, Sequence
 from concurrent.futures import ThreadPoolExecutor
+from contextlib import suppress
 from dataclasses import dataclass
 from fractions import Fraction
 
@@ -12,7 +13,7 @@ from ..formats.case import Side
 from ..formats.shown import Shown
 from ..formats.whole_streams import whole_name
 from ..program.run import Pinch
-from .gestures import open_piece
+from .gestures import NotDone, move_end, open_piece
 from .judgement import Reachable, money, reachable
 from .kinks import placed_along
 from .pieces import HandPlan, utilities_for
@@ -58,31 +59,78 @@ def offers_of(pinch: Pinch, plan: HandPlan, piece: str, before: Reachable | None
     made = [placed_along(plan, chosen, pinches) for _, chosen in ways]
     with ThreadPoolExecutor(ASKED_AT_ONCE) as pool:
         after = list(pool.map(lambda placed: reachable(pinch, placed), made))
-    priced = [PricedOffer(chosen, partner, placed, found)
+    offers = [PricedOffer(chosen, partner, placed, found)
               for (partner, chosen), placed, found in zip(ways, made, after)]
-    priced.sort(key=lambda offer: rank(plan, offer, before))
-    return tuple(told(plan, piece, offer, before) for offer in priced)
+    offers.sort(key=lambda offer: rank(plan, offer, before))
+    return tuple(told(plan, piece, offer, before) for offer in offers)
 
 
-def cost_of(offer: PricedOffer, before: Reachable | None) -> Fraction | None:
+def moves_of(pinch: Pinch, plan: HandPlan, exchanger: str, before: Reachable | None) -> tuple[Offer, ...]:
+    """Where the ends of an exchanger of a plan that is cut can be moved to, the best first: what costs least, then what
+    has the larger duty."""
+    made = {piece: moved for piece in plan.open for moved in moved_to(plan, exchanger, piece)}
+    with ThreadPoolExecutor(ASKED_AT_ONCE) as pool:
+        after = dict(zip(made, pool.map(lambda moved: reachable(pinch, moved), made.values())))
+
+    def order(piece: str) -> tuple[object, ...]:
+        cost = cost_of(after[piece], before)
+        return cost is None, cost or Fraction(0), paid_more(after[piece], before), -made[piece].duties[exchanger]
+
+    return tuple(told_move(plan, exchanger, piece, made[piece].duties[exchanger], after[piece], before)
+                 for piece in sorted(made, key=order))
+
+
+def moved_to(plan: HandPlan, exchanger: str, piece: str) -> Iterator[HandPlan]:
+    """The plan with an end of an exchanger at a piece; none where it cannot stand there."""
+    with suppress(NotDone):
+        yield move_end(plan, exchanger, piece)
+
+
+def told_move(plan: HandPlan, exchanger: str, piece: str, duty: Fraction, after: Reachable | None,
+              before: Reachable | None) -> Offer:
+    """The move of an end in words: from which stream, to which piece."""
+    shown, reach = Shown(plan.case.basis), plan.piece(piece)
+    stream = whole_name(plan.case, reach.stream.name)
+    ends = ' to '.join(shown.temperature(end) for end in (reach.inlet, reach.outlet))
+    price, free = priced(shown, after, before)
+    words = f'{ends} {shown.temperature_unit}, {shown.heat(duty)} {shown.heat_unit}'
+    return Offer(piece, 'piece', stream, shown.heat(duty), words, price, free, duty == plan.duties[exchanger],
+                 {'kind': 'move', 'exchanger': exchanger, 'piece': piece})
+
+
+def cost_of(after: Reachable | None, before: Reachable | None) -> Fraction | None:
     """What it costs at most, in W of hot utility; None where that is not known."""
-    if before is None or offer.after is None:
+    if before is None or after is None:
         return None
-    return max(Fraction(0), offer.after.most - before.least)
+    return max(Fraction(0), after.most - before.least)
 
 
 def rank(plan: HandPlan, offer: PricedOffer, before: Reachable | None) -> tuple[object, ...]:
-    cost = cost_of(offer, before)
+    cost = cost_of(offer.after, before)
     lanes = (offer.chosen.hot_seat, offer.chosen.cold_seat).count(Seat.LANE)
     heat = sum((offer.made.duties[name] for name in offer.made.placed if name not in plan.pairs), Fraction(0))
-    return (offer.partner in plan.utilities, cost is None, cost or Fraction(0), paid_more(offer, before), -heat, lanes)
+    more = paid_more(offer.after, before)
+    return offer.partner in plan.utilities, cost is None, cost or Fraction(0), more, -heat, lanes
 
 
-def paid_more(offer: PricedOffer, before: Reachable | None) -> Fraction:
+def paid_more(after: Reachable | None, before: Reachable | None) -> Fraction:
     """By how much the least cost of the whole rises, in price times W, where it matters which utility is used."""
-    if before is None or before.cost is None or offer.after is None or offer.after.cost is None:
+    if before is None or before.cost is None or after is None or after.cost is None:
         return Fraction(0)
-    return max(Fraction(0), offer.after.cost - before.cost)
+    return max(Fraction(0), after.cost - before.cost)
+
+
+def priced(shown: Shown, after: Reachable | None, before: Reachable | None) -> tuple[str, bool]:
+    """What a gesture costs, in words, and whether it costs nothing."""
+    cost, more = cost_of(after, before), paid_more(after, before)
+    exact = before is not None and before.exact and after is not None and after.exact
+    price = 'cost not known' if cost is None else 'costs nothing' if not cost else \
+        f'costs {"" if exact else "at most "}{shown.heat(cost)} {shown.heat_unit}'
+    if more:
+        price = f'{money(shown, more)} more' if not cost else f'{price}, {money(shown, more)} more'
+    if after is not None and not after.is_servable:
+        price = 'the rest could not be served then'
+    return price, cost == 0 and not more
 
 
 def told(plan: HandPlan, piece: str, offer: PricedOffer, before: Reachable | None) -> Offer:
@@ -91,15 +139,7 @@ def told(plan: HandPlan, piece: str, offer: PricedOffer, before: Reachable | Non
     heat = sum((offer.made.duties[name] for name in offer.made.placed if name not in plan.pairs), Fraction(0))
     duty = f'{shown.heat(heat)} {shown.heat_unit}'
     ended = [ended_name(plan, offer.made, name) for name in (chosen.hot, chosen.cold) if ends_piece(plan, name, chosen)]
-    cost = cost_of(offer, before)
-    exact = before is not None and before.exact and offer.after is not None and offer.after.exact
-    price = 'cost not known' if cost is None else 'costs nothing' if not cost else \
-        f'costs {"" if exact else "at most "}{shown.heat(cost)} {shown.heat_unit}'
-    more = paid_more(offer, before)
-    if more:
-        price = f'{money(shown, more)} more' if not cost else f'{price}, {money(shown, more)} more'
-    if offer.after is not None and not offer.after.is_servable:
-        price = 'the rest could not be served then'
+    price, free = priced(shown, offer.after, before)
     sides = ((chosen.hot, chosen.hot_seat), (chosen.cold, chosen.cold_seat))
     seats = ', '.join(where(plan, name, seat) for name, seat in sides
                       if seat is not Seat.LEVEL and not ends_piece(plan, name, chosen))
@@ -111,7 +151,7 @@ def told(plan: HandPlan, piece: str, offer: PricedOffer, before: Reachable | Non
     return Offer(partner, 'utility' if is_utility else 'piece',
                  partner if is_utility else whole_name(plan.case, plan.piece(partner).stream.name), shown.heat(heat),
                  words,
-                 price + (f' ({seats})' if seats else ''), cost == 0 and not more, bool(ended), gesture)
+                 price + (f' ({seats})' if seats else ''), free, bool(ended), gesture)
 
 
 def ended_name(plan: HandPlan, made: HandPlan, piece: str) -> str:

@@ -1,16 +1,22 @@
-"""What the words of the command say of both texts: the page for the reviewer, pictures, and a network that is searched
-from here."""
+"""What the words of the command say of both texts: the page for the reviewer, pictures, a network that is searched from
+here, and exchangers against cost."""
 from __future__ import annotations
 
 from collections.abc import Sequence
 from dataclasses import replace
 
+from ..report.sheet import text_of
 from ..search.budget import nobody
 from ..words.all_words import word_of
 from ..words.word import Answer, Files, TextFile
 from .known import Known
+from .view import PictureLink, TradeoffLine, TradeoffTable
 
-PICTURES = {'grid': ('case', 'network'), 'curves': ('case',)}
+PICTURES = {'grid': ('case', 'network'), 'curves': ('case',), 'area': ('case',), 'driving': ('case', 'network')}
+LINKS = (PictureLink('report', 'Page for the reviewer'), PictureLink('picture/grid.svg', 'Grid diagram as a picture'),
+         PictureLink('picture/curves.svg', 'Curves as a picture'))
+OF_AREAS = (PictureLink('picture/area.svg', 'Curves with the area of each interval'),
+            PictureLink('picture/driving.svg', 'Differences of curves and exchangers'))
 
 
 def answered(known: Known, names: Sequence[str], roles: Sequence[str], titles: tuple[str, str],
@@ -37,9 +43,29 @@ def picture(known: Known, name: str, titles: tuple[str, str]) -> str:
     return as_text(answered(known, ['draw', name], PICTURES[name], titles).content('svg'))
 
 
+def is_whole(known: Known) -> bool:
+    """Whether the network is accepted, and nothing in it is open: then a search can begin with it."""
+    return known.plan is not None and not known.plan.open and known.stand is not None \
+        and known.stand.accepted is not None
+
+
 def searched(known: Known, titles: tuple[str, str], options: dict[str, str]) -> tuple[str, str]:
     """A network of few exchangers that was searched, from the present one where that is accepted, and what is said of
     it."""
-    whole = known.plan is not None and not known.plan.open and known.stand is not None and known.stand.accepted
-    answer = answered(known, ['network'], ['case', *(['start'] if whole else [])], titles, **options)
+    answer = answered(known, ['network'], ['case', *(['start'] if is_whole(known) else [])], titles, **options)
     return as_text(answer.content('txt')), answer.headline
+
+
+def traded(known: Known, titles: tuple[str, str], options: dict[str, str]) -> TradeoffTable:
+    """Networks of fewer and fewer exchangers with their costs, from the present one where that is accepted."""
+    answer = answered(known, ['tradeoff'], ['case', *(['network'] if is_whole(known) else [])], titles, **options)
+    sheet, texts = answer.sheets[0], answer.further['networks'].texts
+    lines = tuple(TradeoffLine(cells, {'kind': 'texts', 'network': texts[cells[0]], 'told': f'{cells[0]} exchangers'}
+                               if cells[0] in texts else {})
+                  for cells in (tuple(map(text_of, row)) for row in sheet.rows))
+    return TradeoffTable(sheet.headings, lines, answer.headline)
+
+
+def links(known: Known) -> tuple[PictureLink, ...]:
+    """What can be made of both texts for others."""
+    return (*LINKS, *(OF_AREAS if known.case and known.case.basis.cost_rows else ()))

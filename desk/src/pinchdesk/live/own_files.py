@@ -55,6 +55,16 @@ class OwnFile:
             write_whole(self.path, content, lasting=True)
         self.content = content
 
+    def take_back(self, content: bytes | None) -> None:
+        """The file as it was before it was saved: not there where there was none."""
+        if content is not None:
+            self.save(content)
+        elif self.content is not None:
+            with folder_locked(self.path):
+                if not self.is_changed():
+                    os.unlink(self.path)
+            self.content = None
+
 
 @contextmanager
 def folder_locked(path: str) -> Iterator[None]:

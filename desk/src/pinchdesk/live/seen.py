@@ -11,6 +11,7 @@ from .grid_view import Lines, grid_picture, laid_out
 from .judgement import Whole
 from .known import Known
 from .network_view import exchanger_rows, faults_of, judgement_of, marks_of, score_of, sentence_of
+from .other_words import links
 from .view import Difference, FileNames, Judgement, ScoreView, Slider, Texts, UnitNames, View
 
 NO_UNITS = UnitNames('°C', 'K', 'kW', 'kW/K', '', '')
@@ -31,7 +32,7 @@ def seen(known: Known) -> View:
         curve_picture(standing.of_left) if standing and standing.of_left else None,
         grid_picture(lines) if lines else None,
         exchanger_rows(lines, standing) if lines and standing else (),
-        (), False, False, Texts(known.snapshot.case, known.snapshot.network), known.read_only)
+        (), False, False, Texts(known.snapshot.case, known.snapshot.network), links(known), known.read_only)
 
 
 def lines_of_known(known: Known) -> Lines | None:

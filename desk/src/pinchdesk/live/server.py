@@ -22,7 +22,7 @@ from ..failures import failure_of
 from ..program.causes import lines_of
 from .bench import Bench, GestureDone
 from .guard import HEADERS, HOST, OF_REPORT, Guard, Scope, fresh_token
-from .view import Refusal, Slider, View
+from .view import Refusal, Slider, TradeoffTable, View
 
 PAGE = Path(__file__).resolve().parent / 'page'
 KINDS = {'.html': 'text/html', '.css': 'text/css',
@@ -30,7 +30,7 @@ KINDS = {'.html': 'text/html', '.css': 'text/css',
 # How often it is looked whether somebody else has written a file, in seconds.
 LOOKS = 0.5
 # The pictures by their addresses, and what a search may be told.
-PICTURES = {'picture/grid.svg': 'grid', 'picture/curves.svg': 'curves'}
+PICTURES = {f'picture/{name}.svg': name for name in ('grid', 'curves', 'area', 'driving')}
 SEARCHED = ('seconds', 'above')
 Receive = Callable[[], Awaitable[Any]]
 Send = Callable[[Any], Awaitable[None]]
@@ -150,20 +150,30 @@ class LiveDesk:
             return told(done)
         if path == 'offers' and isinstance(asked.get('piece'), str):
             return listed('offers', await run_in_threadpool(self.bench.offers, version, asked['piece']))
+        if path == 'moves' and isinstance(asked.get('exchanger'), str):
+            return listed('offers', await run_in_threadpool(self.bench.moves, version, asked['exchanger']))
         if path == 'ways':
             return listed('ways', await run_in_threadpool(self.bench.ways, version))
         if path == 'slider' and isinstance(asked.get('difference'), str):
             found = await run_in_threadpool(self.bench.slider, version, asked['difference'])
             return answer(found) if isinstance(found, Slider) else told(found)
-        if path == 'search':
-            options = {name: value for name, value in asked.items() if name in SEARCHED and isinstance(value, str)}
-            done = await run_in_threadpool(self.bench.search, version, options)
-            self.tell()
-            return told(done)
+        if path in ('search', 'tradeoff'):
+            return await self.searched(path, asked)
         if path == 'close':
             self.close()
             return answer({})
         return nothing()
+
+    async def searched(self, path: str, asked: Mapping[str, Any]) -> Response:
+        """The answer to a search, which takes its time: of a network, or of exchangers against cost."""
+        options = {name: value for name, value in asked.items() if name in SEARCHED and isinstance(value, str)}
+        if path == 'tradeoff':
+            options.pop('above', None)
+            found = await run_in_threadpool(self.bench.tradeoff, asked.get('version'), options)
+            return answer(found) if isinstance(found, TradeoffTable) else told(found)
+        done = await run_in_threadpool(self.bench.search, asked.get('version'), options)
+        self.tell()
+        return told(done)
 
     async def changes(self, window: WebSocket, path: str | None) -> None:
         """Says the version whenever it has changed, until the window is closed."""

@@ -16,8 +16,12 @@ What the page asks, below `/TOKEN/`:
 - `POST slider {"version": n, "difference": text}` answers a `Slider`, or `{"refused": Refusal}`; nothing is written.
 - `POST search {"version": n, "seconds"?: text, "above"?: text}` searches a network of few exchangers for so long (10
   unless said), at most so many percent above the least cost, from the present one where that is accepted; it answers as
-  a gesture does, when the time is over. `GET report` is the page for the reviewer, `GET picture/grid.svg` and
-  `GET picture/curves.svg` are pictures, each for a window of its own. `POST close {}` ends the desk.
+  a gesture does, when the time is over. `POST tradeoff {"version": n, "seconds"?: text}` answers a `TradeoffTable`, or
+  `{"refused": Refusal, "view": View}`; nothing is written. `GET report` is the page for the reviewer,
+  `GET picture/NAME.svg` are pictures, each for a window of its own: the `links` of the view. `POST close {}` ends the
+  desk.
+- `POST moves {"version": n, "exchanger": name}` answers `{"offers": [Offer, ..]}`: where its ends can be moved to, the
+  best first. The same for 409.
 - WebSocket `changes`: a JSON number, the version, whenever it has changed (and once at the beginning).
 
 All POSTs want `Content-Type: application/json`. Whatever is wrong with the address is 404.
@@ -40,7 +44,8 @@ the heat unit of the case; `?` may be left out):
 - `cell {row, field, text}`: a field of a stream, utility or forbidden match; `row` is its `row`.
 - `add {what, ..fields}` with `what` `stream` (`name, side, supply, target, flow` or `load, contribution?`), `utility`
   (`name, side, level, price, least?, most?, contribution?`) or `forbid` (`hot, cold`); `remove {row}`.
-- `texts {case?, network?}`: the texts themselves, as typed.
+- `texts {case?, network?, told?}`: the texts themselves, as typed, and what the step is called.
+- `keep {name}`: where the case of a table is kept, by a name alone; before it nothing else is done.
 - `undo {}`, `redo {}`, `step {at}`: back or forth to a step."""
 from __future__ import annotations
 
@@ -62,11 +67,13 @@ class UnitNames:
 
 @dataclass(frozen=True)
 class FileNames:
-    """The names of both files as they are shown, and whether they are saved: `saved`, or why not."""
+    """The names of both files as they are shown, and whether they are saved: `saved`, or why not. `offered` are names
+    for the case of a table, where it is not said yet where it is kept; else there are none."""
 
     case: str
     network: str
     saved: str
+    offered: tuple[str, ...] = ()
 
 
 @dataclass(frozen=True)
@@ -338,6 +345,14 @@ class StepMade:
 
 
 @dataclass(frozen=True)
+class PictureLink:
+    """What is shown in a window of its own: its address below that of the page, and its name."""
+
+    name: str
+    text: str
+
+
+@dataclass(frozen=True)
 class Texts:
     """Both texts, as they are saved."""
 
@@ -380,6 +395,7 @@ class View:
     can_undo: bool
     can_redo: bool
     texts: Texts
+    links: tuple[PictureLink, ...]
     read_only: str = ''
 
 
@@ -439,3 +455,20 @@ class Slider:
     area: str = ''
     cost: str = ''
     network: str = ''
+
+
+@dataclass(frozen=True)
+class TradeoffLine:
+    """A network of a trade-off, or the floor; `gesture` takes it, and is empty where there is none to take."""
+
+    cells: tuple[str, ...]
+    gesture: Mapping[str, object]
+
+
+@dataclass(frozen=True)
+class TradeoffTable:
+    """Networks of fewer and fewer exchangers with their costs, and what of them is proved."""
+
+    headings: tuple[str, ...]
+    lines: tuple[TradeoffLine, ...]
+    proved: str

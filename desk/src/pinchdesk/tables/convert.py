@@ -7,7 +7,8 @@ from dataclasses import replace
 from fractions import Fraction
 
 from ..errors import Refused
-from ..formats.case import print_case, read_case
+from ..formats.case import is_case as is_case
+from ..formats.case import print_case
 from ..formats.limits import MOST_COLD, MOST_HOT, MOST_UTILITIES
 from ..program.causes import CAUSES
 from ..program.run import Pinch
@@ -50,15 +51,6 @@ def case_of_table(content: bytes, name: str, wanted: Wanted) -> Converted:
     if best > 1:
         tables = tuple(table for table in tables if headings(table) == best)
     return tables_converted(tables, wanted)
-
-
-def is_case(content: bytes) -> bool:
-    """Whether a file is a case; it is one too where only a comment of the desk is wrong."""
-    try:
-        read_case(content)
-    except Refused as fault:
-        return fault.cause in ('comment', 'segment', 'utility')
-    return True
 
 
 def tables_converted(tables: Sequence[Table], wanted: Wanted) -> Converted:

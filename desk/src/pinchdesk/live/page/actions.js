@@ -12,6 +12,7 @@ import { Lost } from './talk.js';
 /** @typedef {import('./talk.js').Done} Done */
 
 const LATE = 'This was changed meanwhile, in another window or in the file. Look at it, and do it again.';
+const UNKEPT = 'Nothing was changed: it is not said yet where the case is kept.';
 const AGO = 250;
 
 export class Actions {
@@ -32,6 +33,8 @@ export class Actions {
     /** @type {Promise<Offer[]> | null} */
     this.asked = null;
     this.askedAt = '';
+    /** @type {() => Promise<boolean>} asks where the case of a table is kept */
+    this.keeper = () => Promise.resolve(false);
   }
 
   /** The present state. */
@@ -44,11 +47,30 @@ export class Actions {
    * @param {Gesture} gesture
    * @returns {Promise<boolean>}
    */
-  do(gesture) {
-    if (!this.searching) return this.after(() => this.talk.gesture(this.state.view.version, gesture));
-    const text = 'A search is under way, and ends by itself: nothing was changed.';
+  async do(gesture) {
+    if (this.searching) return this.refused('A search is under way, and ends by itself: nothing was changed.');
+    if (!await this.isKept()) return this.refused(UNKEPT);
+    return this.after(() => this.talk.gesture(this.state.view.version, gesture));
+  }
+
+  /** @param {string} text */
+  refused(text) {
     this.store.set({ refusal: { text, places: [] } });
-    return Promise.resolve(false);
+    return false;
+  }
+
+  /** Whether there are two files that are written; of a table it is asked where. */
+  async isKept() {
+    return !this.state.view.files.offered.length || await this.keeper();
+  }
+
+  /**
+   * Keeps the case of a table by a name. Gives why it cannot be.
+   * @param {string} name
+   */
+  async keep(name) {
+    const done = await this.after(() => this.talk.gesture(this.state.view.version, { kind: 'keep', name }));
+    return done ? '' : this.state.refusal?.text ?? 'The desk does not answer.';
   }
 
   /**
@@ -57,6 +79,7 @@ export class Actions {
    * @param {string} above
    */
   async search(seconds, above) {
+    if (!await this.isKept()) return this.refused(UNKEPT);
     this.searching = true;
     try {
       return await this.after(() => this.talk.search(this.state.view.version, seconds, above));
@@ -105,7 +128,8 @@ export class Actions {
     const same = view.version === before.version;
     const still = chosen && isThere(view, chosen) ? chosen : null;
     this.store.set({
-      view, chosen: still, offers: same ? this.state.offers : null, way: null, partner: null,
+      view, chosen: still, offers: same ? this.state.offers : null, moves: same ? this.state.moves : null, way: null,
+      partner: null,
       waysAsked: same ? this.state.waysAsked : true, ...more,
     });
     if (same) return;
@@ -140,7 +164,7 @@ export class Actions {
   choose(chosen) {
     const { chosen: before } = this.state;
     if (chosen && before && chosen.kind === before.kind && chosen.name === before.name) return;
-    this.store.set({ chosen, partner: null, refusal: null });
+    this.store.set({ chosen, moves: null, partner: null, refusal: null });
     if (chosen && chosen.kind === 'piece') this.offer(chosen.name);
   }
 
@@ -173,6 +197,24 @@ export class Actions {
     } catch (cause) {
       this.failed(cause);
       return [];
+    }
+  }
+
+  /**
+   * Where the ends of an exchanger can be moved to.
+   * @param {string} exchanger
+   */
+  async findMoves(exchanger) {
+    const { moves, view: { version } } = this.state;
+    if (moves && moves.exchanger === exchanger) return;
+    this.store.set({ moves: { exchanger, list: null } });
+    try {
+      await this.last;
+      const list = await this.talk.moves(version, exchanger) ?? [];
+      const { moves: now, view } = this.state;
+      if (now?.exchanger === exchanger && view.version === version) this.store.set({ moves: { exchanger, list } });
+    } catch (cause) {
+      this.failed(cause);
     }
   }
 
@@ -239,6 +281,23 @@ export class Actions {
     } finally {
       this.sliding = false;
     }
+  }
+
+  /**
+   * Exchangers against cost from here; nothing is changed. Null where it is refused.
+   * @param {string} seconds
+   * @returns {Promise<import('./contract.js').TradeoffTable | null>}
+   */
+  async tradeoff(seconds) {
+    try {
+      await this.last;
+      const answer = await this.talk.tradeoff(this.state.view.version, seconds);
+      if (answer && !('refused' in answer)) return answer;
+      this.refused(answer ? answer.refused.text : LATE);
+    } catch (cause) {
+      this.failed(cause);
+    }
+    return null;
   }
 
   /** Ends the desk; all is saved. */

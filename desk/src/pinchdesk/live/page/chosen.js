@@ -28,7 +28,7 @@ export class ChosenPart {
 
   /** @type {import('./state.js').Renderer} */
   render = (state, before) => {
-    if (!changed(state, before, 'view', 'chosen', 'offers', 'instead')) return;
+    if (!changed(state, before, 'view', 'chosen', 'offers', 'instead', 'moves')) return;
     const scrolled = before && before.chosen === state.chosen ? this.scrolled : 0;
     fill(this.panel, ...this.content(state));
     if (scrolled !== this.scrolled || scrolled) this.panel.scrollTop = scrolled;
@@ -136,12 +136,16 @@ export class ChosenPart {
     }
   }
 
-  /** Goes into the panel: to the first partner once it is there, to the duty, to the first share. */
-  async enter() {
+  /**
+   * Goes into the panel: to the first partner once it is there, to the duty, to the first share.
+   * @param {string} [to] `moves`: to the first place that an end of an exchanger can be moved to
+   */
+  async enter(to) {
     const { chosen } = this.actions.state;
     if (chosen && chosen.kind === 'piece') await this.actions.offer(chosen.name);
-    const keys = { exchanger: 'duty', joint: 'share 0', piece: 'offer 0' };
-    const first = chosen && keyed(this.panel, keys[chosen.kind]);
+    if (chosen && to) await this.actions.findMoves(chosen.name);
+    const keys = { exchanger: to ? 'move 0' : 'duty', joint: 'share 0', piece: 'offer 0' };
+    const first = chosen && (keyed(this.panel, keys[chosen.kind]) ?? keyed(this.panel, to ?? ''));
     const found = first ?? this.panel.querySelector('button, input');
     if (found instanceof HTMLElement) found.focus();
     if (found instanceof HTMLInputElement) found.select();
@@ -208,6 +212,7 @@ function exchangerContent(name, state, actions) {
     others.length > 0 && make('ol', { class: 'offers', 'aria-label': 'other places' }, ...others.map((offer, at) =>
       make('li', {}, offerButton(offer, `instead ${at}`, actions, () => actions.placeInstead(offer))))),
     facts(name, view),
+    ...shape.kind === 'match' ? movesContent(name, state, actions) : [],
     otherForms(name, shape.kind, view, actions),
   ];
 }
@@ -233,6 +238,30 @@ function dutyForm(name, duty, view, actions) {
     'as large as it can be'), ' ',
   make('button', { type: 'button', 'data-key': 'take', click: () => actions.do({ kind: 'take', exchanger: name }) },
     'take away'));
+}
+
+/**
+ * Where the ends of an exchanger can be moved to: looked for when it is asked for.
+ * @param {string} name
+ * @param {State} state
+ * @param {Actions} actions
+ * @returns {Child[]}
+ */
+function movesContent(name, state, actions) {
+  const { moves } = state, list = moves && moves.exchanger === name ? moves.list : null;
+  if (!moves || moves.exchanger !== name) {
+    return [make('button', {
+      type: 'button', 'data-key': 'moves', 'aria-label': `move an end of ${name}`, click: () => actions.findMoves(name),
+    }, 'move an end …')];
+  }
+  return [
+    make('h3', { 'data-key': 'moves', tabindex: -1 }, 'Move an end to'),
+    list === null ? make('p', { class: 'pale' }, 'Looking for places …')
+      : list.length ? make('ol', { class: 'offers', 'aria-label': 'places for an end, the best first' },
+        ...list.map((offer, at) => make('li', {}, offerButton(offer, `move ${at}`, actions,
+          () => actions.do(offer.gesture)))))
+        : make('p', {}, 'Neither end can stand at another open piece.'),
+  ];
 }
 
 /**

@@ -17,6 +17,7 @@
  * @property {string} case
  * @property {string} network
  * @property {string} saved
+ * @property {string[]} offered
  */
 
 /**
@@ -235,6 +236,12 @@
  */
 
 /**
+ * @typedef {object} PictureLink
+ * @property {string} name
+ * @property {string} text
+ */
+
+/**
  * @typedef {object} Texts
  * @property {string} case
  * @property {string} network
@@ -269,6 +276,7 @@
  * @property {boolean} can_undo
  * @property {boolean} can_redo
  * @property {Texts} texts
+ * @property {PictureLink[]} links
  * @property {string} read_only
  */
 
@@ -315,6 +323,19 @@
  * @property {string} area
  * @property {string} cost
  * @property {string} network
+ */
+
+/**
+ * @typedef {object} TradeoffLine
+ * @property {string[]} cells
+ * @property {Gesture} gesture
+ */
+
+/**
+ * @typedef {object} TradeoffTable
+ * @property {string[]} headings
+ * @property {TradeoffLine[]} lines
+ * @property {string} proved
  */
 
 export {};

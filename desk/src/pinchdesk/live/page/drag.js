@@ -81,6 +81,7 @@ export class Drag {
       picture.append(pull.line);
       picture.classList.add('dragging');
       requestAnimationFrame(this.roll);
+      if (pull.kind === 'exchanger') this.part.actions.findMoves(pull.name);
       this.part.mark(this.part.actions.state);
     }
     this.aim({ x: event.clientX, y: event.clientY });
@@ -152,8 +153,12 @@ export class Drag {
     const { pull } = this;
     if (!pull || !pull.target) return [];
     const partner = nameOf(pull.target);
-    if (pull.kind === 'exchanger') return [`move this end of ${pull.name} here`];
-    const { offers } = this.part.actions.state;
+    const { offers, moves } = this.part.actions.state;
+    if (pull.kind === 'exchanger') {
+      if (!moves || moves.exchanger !== pull.name || !moves.list) return ['…'];
+      const move = moves.list.find(found => found.partner === partner);
+      return move ? [`move this end of ${pull.name} here`, move.words, move.cost] : ['this end cannot stand here'];
+    }
     if (!offers || offers.piece !== pull.name || !offers.list) return ['…'];
     const offer = offers.list.find(found => found.partner === partner);
     return offer ? [offer.words, offer.cost] : ['no heat can go from one to the other here'];

@@ -22,7 +22,7 @@ export class GridPart {
   /**
    * @param {HTMLElement} panel
    * @param {Actions} actions
-   * @param {(chosen: Chosen) => unknown} enter goes on to what is chosen, in the panel below
+   * @param {(chosen: Chosen, to?: string) => unknown} enter goes on to what is chosen, in the panel below
    */
   constructor(panel, actions, enter) {
     this.panel = panel;
@@ -136,12 +136,11 @@ export class GridPart {
   mark(state) {
     const { picture } = this, places = this.panel.querySelector('.wide');
     if (!picture || !places) return;
-    const { chosen, refusal, view, offers, way } = state;
-    const dragged = this.drag.piece;
-    const matched = dragged ?? (chosen && chosen.kind === 'piece' ? chosen.name : null);
-    const list = matched !== null && offers && offers.piece === matched ? offers.list ?? [] : [];
-    const partners = new Set(list.map(offer => offer.partner));
-    places.classList.toggle('matching', matched !== null && partners.size > 0);
+    const { chosen, refusal, view, offers, moves, way } = state;
+    const matched = this.drag.piece ?? (chosen && chosen.kind === 'piece' ? chosen.name : null);
+    const list = matched !== null && offers && offers.piece === matched ? offers.list : moves?.list;
+    const partners = new Set((list ?? []).map(offer => offer.partner));
+    places.classList.toggle('matching', partners.size > 0);
     const wrong = [...(refusal ? refusal.places : []), ...view.verdict.places];
     const legs = new Map(way ? way.legs.map(leg => [leg.exchanger, leg.gains]) : []);
     places.classList.toggle('pointing', legs.size > 0);

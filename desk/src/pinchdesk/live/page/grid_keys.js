@@ -112,7 +112,10 @@ export class GridKeys {
     else if (kind === 'piece' && key === 'u') actions.do({ kind: 'utility', piece: name });
     else if (kind === 'piece' && key === 's') actions.do({ kind: 'split', piece: name });
     else if (kind === 'exchanger' && key === 'm') actions.do({ kind: 'grow', exchanger: name });
-    else if (kind === 'exchanger' && away) actions.do({ kind: 'take', exchanger: name });
+    else if (kind === 'exchanger' && key === 'e') {
+      actions.choose(chosen);
+      this.part.enter(chosen, 'moves');
+    } else if (kind === 'exchanger' && away) actions.do({ kind: 'take', exchanger: name });
     else if (kind === 'joint' && away) actions.do({ kind: 'join', joint: name });
     else return false;
     return true;

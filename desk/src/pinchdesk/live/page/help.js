@@ -9,6 +9,7 @@ const KEYS = [
   ['Home, End', 'in the diagram: to the first open piece, to the last place'],
   ['Enter', 'on an open piece: its partners, the best first; on an exchanger: its duty; on a parting: its shares'],
   ['m', 'on an exchanger: as large as it can be'],
+  ['e', 'on an exchanger: to where its ends can be moved'],
   ['Delete', 'on an exchanger: takes it away; on a parting: joins the branches'],
   ['u', 'on an open piece: served by the cheapest utility that reaches'],
   ['U', 'all that is open is served by utilities'],

@@ -6,7 +6,9 @@ import { CurvesPart } from './curves.js';
 import { make, part } from './dom.js';
 import { GridPart } from './grid.js';
 import { helpPart } from './help.js';
-import { restPart, scorePart, stepsPart } from './score.js';
+import { keepingPart } from './keeping.js';
+import { restPart, tradeoffPart } from './rest.js';
+import { scorePart, stepsPart } from './score.js';
 import { Store } from './state.js';
 import { StreamsPart } from './streams.js';
 import { tablePart, textsPart } from './tables.js';
@@ -58,17 +60,18 @@ async function begin() {
   const store = new Store(await talk.view());
   const actions = new Actions(talk, store);
   const help = helpPart(part('help'));
+  actions.keeper = keepingPart(part('keeping'), actions);
   /** @type {ChosenPart} */
   const chosen = new ChosenPart(part('chosen'), actions, key => grid.focus(key));
   /** @type {GridPart} */
-  const grid = new GridPart(part('grid'), actions, () => chosen.enter());
+  const grid = new GridPart(part('grid'), actions, (_, to) => chosen.enter(to));
   for (const renderer of [
     grid.render, topPart(actions, help), toastPart(), lostPart(), new StreamsPart(part('streams'), actions).render,
     new CurvesPart(part('curves'), actions).render, chosen.render,
     new WaysPart(part('ways'), actions, () => grid.keys.enter()).render, scorePart(part('score'), actions),
-    stepsPart(part('steps'), actions), tablePart(part('table'), actions), textsPart(part('texts'), actions), measured,
+    stepsPart(part('steps'), actions), tablePart(part('table'), actions), textsPart(part('texts'), actions),
+    tradeoffPart(part('tradeoff'), actions), restPart(part('rest'), actions), measured,
   ]) store.add(renderer);
-  restPart(part('rest'), actions);
   document.addEventListener('keydown', event => pressed(event, actions, help));
   actions.findWays();
   talk.changes(version => actions.refresh(version), lost => {

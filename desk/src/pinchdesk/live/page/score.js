@@ -93,36 +93,6 @@ function severalOfASide(view) {
 }
 
 /**
- * What else can be done: a search, what is made for others, the end.
- * @param {HTMLElement} panel
- * @param {Actions} actions
- */
-export function restPart(panel, actions) {
-  const seconds = make('input', { value: '10', size: 3, inputmode: 'decimal', 'aria-label': 'seconds of the search' });
-  const above = make('input', {
-    value: '0', size: 3, inputmode: 'decimal', 'aria-label': 'percent above the least cost, at most',
-  });
-  const button = make('button', {}, 'search'), told = make('p', { role: 'status' });
-  /** @param {string} name @param {string} text */
-  const link = (name, text) => make('li', {}, make('a', { href: name, target: '_blank', rel: 'noopener' }, text));
-  fill(panel,
-    make('details', {}, make('summary', {}, 'Search few exchangers from here'), make('form', {
-      class: 'tools', submit: async (/** @type {Event} */ event) => {
-        event.preventDefault();
-        button.disabled = true;
-        told.textContent = `Searching for ${seconds.value} s …`;
-        await actions.search(seconds.value.trim(), above.value.trim());
-        button.disabled = false;
-        told.textContent = '';
-      },
-    }, make('label', {}, 'for ', seconds, ' s,'),
-    make('label', {}, ' at most ', above, ' % above the least cost '), button), told),
-    make('ul', {}, link('report', 'Page for the reviewer'), link('picture/grid.svg', 'Grid diagram as a picture'),
-      link('picture/curves.svg', 'Curves as a picture')),
-    make('button', { type: 'button', click: () => actions.close() }, 'Close the desk'));
-}
-
-/**
  * Scrolls the list, and nothing else, to the present step.
  * @param {HTMLElement} panel
  */

@@ -8,6 +8,7 @@
 
 /** @typedef {{kind: 'exchanger' | 'piece' | 'joint', name: string}} Chosen */
 /** @typedef {{piece: string, list: Offer[] | null}} Offers `list` is null until it is there */
+/** @typedef {{exchanger: string, list: Offer[] | null}} Moves where its ends can go; null until it is there */
 /** @typedef {{exchanger: string, list: Offer[]}} Instead other places for an exchanger that was just placed */
 
 /**
@@ -16,6 +17,7 @@
  * @property {Chosen | null} chosen
  * @property {Offers | null} offers
  * @property {Instead | null} instead
+ * @property {Moves | null} moves
  * @property {WayOffer[]} ways
  * @property {boolean} waysAsked whether the ways are those of an earlier version
  * @property {WayOffer | null} way the way that is pointed at
@@ -34,7 +36,7 @@ export class Store {
   constructor(view) {
     /** @type {State} */
     this.state = {
-      view, chosen: null, offers: null, instead: null, ways: [], waysAsked: true, way: null, partner: null,
+      view, chosen: null, offers: null, instead: null, moves: null, ways: [], waysAsked: true, way: null, partner: null,
       slider: null, refusal: null, busy: false, lost: false, closed: false,
     };
     /** @type {Renderer[]} */

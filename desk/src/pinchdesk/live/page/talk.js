@@ -4,6 +4,7 @@
 /** @typedef {import('./contract.js').Offer} Offer */
 /** @typedef {import('./contract.js').Refusal} Refusal */
 /** @typedef {import('./contract.js').Slider} Slider */
+/** @typedef {import('./contract.js').TradeoffTable} TradeoffTable */
 /** @typedef {import('./contract.js').View} View */
 /** @typedef {import('./contract.js').WayOffer} WayOffer */
 
@@ -83,6 +84,28 @@ export class Talk {
   async offers(version, piece) {
     const { status, content } = await this.ask('offers', { version, piece });
     return status === 409 ? null : content.offers ?? [];
+  }
+
+  /**
+   * Where the ends of an exchanger can be moved to; null where the state has changed meanwhile.
+   * @param {number} version
+   * @param {string} exchanger
+   * @returns {Promise<Offer[] | null>}
+   */
+  async moves(version, exchanger) {
+    const { status, content } = await this.ask('moves', { version, exchanger });
+    return status === 409 ? null : content.offers ?? [];
+  }
+
+  /**
+   * Exchangers against cost, when the time is over; null where the state has changed meanwhile.
+   * @param {number} version
+   * @param {string} seconds
+   * @returns {Promise<TradeoffTable | {refused: Refusal} | null>}
+   */
+  async tradeoff(version, seconds) {
+    const { status, content } = await this.ask('tradeoff', { version, ...(seconds && { seconds }) });
+    return status === 409 ? null : content;
   }
 
   /**

@@ -19,7 +19,8 @@ export function topPart(actions, help) {
     const { view } = state, { files, verdict } = view;
     if (changed(state, before, 'view')) {
       document.title = `${files.case} · ${files.network} – pinchdesk`;
-      fill(part('files'), make('bdi', {}, files.case), ' · ', make('bdi', {}, files.network));
+      const begun = files.offered.length > 0 ? ' (a table)' : '';
+      fill(part('files'), make('bdi', {}, files.case), begun, ' · ', make('bdi', {}, files.network));
       tell(part('verdict'), verdict, verdict.kind === 'accepted' && view.score.above !== '0');
     }
     fill(part('history'),
@@ -32,6 +33,9 @@ export function topPart(actions, help) {
         click: () => actions.do({ kind: 'redo' }),
       }, '↷ Redo'),
       make('button', { type: 'button', 'data-key': 'help', 'aria-label': 'help', title: '?', click: help }, '?'),
+      files.offered.length > 0 && make('button', {
+        type: 'button', 'data-key': 'keep', click: () => actions.keeper(),
+      }, 'Keep the case …'),
       make('span', { class: 'saved' }, files.saved));
   };
 }
