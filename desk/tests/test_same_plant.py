@@ -29,7 +29,7 @@ TABLES = ['targets {case.csv}', 'flow {case.csv}', 'audit {case.csv} {case-netwo
           'table {case.csv} {case-network.txt}', 'table {case.csv} {bad.txt}', 'sweep {case.csv} 4 16 4',
           'prices {case.csv} {case-study.txt}', 'site {site.csv}', 'units {case.csv}',
           'units {case.csv} {case-network.txt}', 'rest {case.csv} {begun.txt}', 'rest {case.csv} {bad.txt}',
-          'whatif {case.csv}', 'whatif {case.csv} {changes.csv}']
+          'whatif {case.csv}', 'whatif {case.csv} {changes.csv}', 'utilities {case.csv} --flame 1800°C --stack 160°C']
 SEARCHES = ['tradeoff {case.csv} {case-network.txt} --seconds 30', 'network {case.csv} --seconds 30']
 PICTURES = ['curves {case.csv}', 'composite {case.csv}', 'balanced {case.csv}', 'grand {case.csv}',
             'grid {case.csv} {case-network.txt}', 'grid {case.csv} {bad.txt}', 'site {site.csv}',
@@ -193,7 +193,7 @@ def test_a_page_is_that_of_the_same_plant(words: str, plain: Files, other: Files
 
 
 MANY = ['targets', 'flow', 'audit', 'table', 'sweep 4 16 4', 'prices', 'units', 'rest', 'whatif', 'site',
-        'network --seconds 30', 'tradeoff --seconds 30']
+        'utilities --flame 1800°C --stack 160°C', 'network --seconds 30', 'tradeoff --seconds 30']
 
 
 def many_of(files: Files, words: str) -> Parts:
@@ -205,7 +205,7 @@ def many_of(files: Files, words: str) -> Parts:
     return list(cells_of('many', headings, rows, files.style))
 
 
-@pytest.mark.parametrize('words', few_of(MANY, MANY[:10]))
+@pytest.mark.parametrize('words', few_of(MANY, MANY[:11]))
 def test_a_row_of_many_is_that_of_the_same_plant(words: str, plain: Files, other: Files) -> None:
     skip_site(words, other)
     one, same = many_of(plain, words), many_of(other, words)
