@@ -35,7 +35,7 @@ def undrawn(figure: Figure) -> set[int]:
     return found
 
 
-@lru_cache(maxsize=4)
+@lru_cache(maxsize=64)
 def texts_of(figure: Figure) -> list[tuple[str, Bbox, Any]]:
     """All texts that are seen, with their boxes in dots, a little less than they are."""
     with styled():

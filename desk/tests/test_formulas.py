@@ -85,7 +85,7 @@ def hostile(tmp_path: Path, monkeypatch: pytest.MonkeyPatch) -> Path:
 
 
 WORDS = ['targets', 'flow', 'audit', 'table', 'sweep 0 20 10', 'prices', 'units', 'rest', 'whatif',
-         'network --seconds 30', 'tradeoff --seconds 30']
+         'network --seconds 0.2', 'tradeoff --seconds 0.2']
 
 
 @pytest.mark.usefixtures('searched_here')

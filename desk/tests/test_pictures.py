@@ -4,6 +4,7 @@ from __future__ import annotations
 
 from dataclasses import replace
 from fractions import Fraction
+from functools import lru_cache
 from itertools import combinations
 from time import process_time
 
@@ -34,6 +35,7 @@ from pinchdesk.formats.whole_streams import parts_of
 from pinchdesk.program.answers import Prices, Segment, SpanAnswer
 
 
+@lru_cache(maxsize=64)
 def grid(pinch: Pinch, content: bytes, text: bytes, most: int = 60) -> Figure:
     followed = follow(completed(read_case(content)), read_network(text))
     pinches = pinches_of(pinch.targets(content), pinch.curves(content))
