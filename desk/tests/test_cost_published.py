@@ -1,5 +1,5 @@
 """Areas, shells and costs as they are published. What a source rounds is within its rounding; where one of its numbers
-cannot be right, the test says which. All of it is from memory but for the cases that `../shared` had."""
+cannot be right, the test says which. The sources were not at hand: all of it is from notes or from memory."""
 from __future__ import annotations
 
 from fractions import Fraction

@@ -7,7 +7,7 @@ from typing import Any
 
 import pytest
 from branched import THREE, THREE_NETWORK
-from conftest import EXAMPLES, few_of
+from conftest import EXAMPLES, few_of, tried
 from cutting import can_be_cut, cut_network, cut_stream
 from hypothesis import given
 from hypothesis import strategies as some
@@ -192,6 +192,7 @@ def uncut(name: str) -> Followed:
 
 
 @pytest.mark.parametrize('name', few_of(UNSPLIT, ('four-stream', 'own-contributions')))
+@tried(12, 25)
 @given(data=some.data())
 def test_a_cut_stream_has_the_targets_the_curves_and_the_exchangers_of_the_uncut_one(
         name: str, pinch: Pinch, data: some.DataObject) -> None:
@@ -228,6 +229,7 @@ def seen(followed: Followed, pinches: Any) -> list[Any]:
 
 
 @pytest.mark.parametrize('name', few_of(('four-stream', 'tc3', 'two-reactors', 'column'), ('four-stream',)))
+@tried(12, 25)
 @given(data=some.data())
 def test_the_least_number_of_exchangers_is_that_of_the_uncut_case(name: str, pinch: Pinch,
                                                                   data: some.DataObject) -> None:
