@@ -8,24 +8,34 @@ from decimal import Decimal
 from ..analysis.range_sizes import CheckedRange
 from ..errors import Refused
 from ..formats.case import Case, Side, Stream, read_case
-from ..formats.range_parts import heat_of_parts, range_parts, sized
-from ..formats.shown import Shown
+from ..formats.range_parts import cost_of_ranges, heat_of_parts, leading, range_parts, sized
+from ..formats.ranges import RangedUtility
+from ..formats.shown import Number, Shown
 from .facts import Fact, FactRow, FactTable
 from .sheet import Sheet
 
+TITLE = 'Utilities with a range, as streams'
 GIVES = {Side.HOT: 'gives', Side.COLD: 'takes'}
 
 
-def ranges_told(content: bytes) -> list[str]:
-    """What is said beside all answers about a case that has utilities with a range: which streams they are, and that
-    the costs of the program are without theirs. Nothing of a text that is no case."""
+def ranged_case(content: bytes) -> Case | None:
+    """The case of a text where it has utilities with a range; None of another one, and of what is no case."""
     if b'#utility' not in content:
-        return []
+        return None
     try:
         case = read_case(content)
     except Refused:
+        return None
+    return case if case.basis.ranges else None
+
+
+def ranges_told(content: bytes) -> list[str]:
+    """What is said beside an answer about a case that has utilities with a range: which streams they are, and that the
+    costs of the program are without theirs."""
+    case = ranged_case(content)
+    if case is None:
         return []
-    shown, told = Shown(case.basis), []
+    shown, told = Shown(case.basis), list[str]()
     for utility in case.basis.ranges:
         parts = range_parts(case, utility)
         heat = heat_of_parts(parts)
@@ -87,38 +97,51 @@ def unit_heat(checked: CheckedRange) -> int:
     return checked.heat - heat_of_parts(sized(checked.parts, checked.cp - 1)) if checked.cp > 1 else checked.heat
 
 
-def ranges_table(case: Case, ranges: Sequence[CheckedRange], cost: int | None = None) -> FactTable:
-    """The utilities with a range, each with its heat and its cost, and beside that of the program, where it is there,
-    the sum of both."""
-    shown = Shown(case.basis)
-    rows = [range_facts(checked, shown) for checked in ranges]
-    beside = sum(checked.cost for checked in ranges)
-    if cost is not None and ranges:
-        rows.append((Fact('utility', 'all of them'), *[Fact('', None)] * 6,
-                     Fact('cost', Decimal(shown.cost(beside)), shown.cost_unit)))
-        rows.append((Fact('utility', 'with the cost of the program'), *[Fact('', None)] * 6,
-                     Fact('cost', Decimal(shown.cost(cost + beside)), shown.cost_unit)))
-    temperature, heat, flow = shown.temperature_unit, shown.heat_unit, shown.flow_unit
-    columns = ('utility', 'side', f'from {temperature}', f'to {temperature}', f'CP {flow}', f'heat {heat}',
-               f'price {shown.price_unit}', f'cost {shown.cost_unit}')
-    return FactTable('Utilities with a range, held as streams', tuple(rows), columns=columns)
+def ranges_sheet(case: Case, cost: Number | None = None) -> Sheet:
+    """The utilities with a range of a case, each with its heat and its cost, and beside a cost of the program, where
+    there is one, the sum with it."""
+    shown, beside = Shown(case.basis), cost_of_ranges(case)
+    rows: list[FactRow] = [range_facts(utility, range_parts(case, utility), shown) for utility in case.basis.ranges]
+    sums: list[tuple[str, Number]] = [('all of them', beside)]
+    sums += [] if cost is None else [('with the cost of the program', beside + cost)]
+    rows += [(Fact('utility', name), *[Fact('', None)] * 6, Fact('cost', Decimal(shown.cost(amount)), shown.cost_unit))
+             for name, amount in sums]
+    temperature = shown.temperature_unit
+    columns = ('utility', 'side', f'from {temperature}', f'to {temperature}', f'CP {shown.flow_unit}',
+               f'heat {shown.heat_unit}', f'price {shown.price_unit}', f'cost {shown.cost_unit}')
+    return FactTable(TITLE, tuple(rows), columns=columns).sheet()
+
+
+def with_ranges_sheet(sheets: tuple[Sheet, ...], content: bytes) -> tuple[Sheet, ...]:
+    """The sheets of an answer about a case with the utilities with a range behind them, where it has some and they are
+    not among these."""
+    case = ranged_case(content)
+    if case is None or not sheets or any(sheet.title == TITLE for sheet in sheets):
+        return sheets
+    return (*sheets, ranges_sheet(case))
 
 
 def range_sheets(case: Case, ranges: Sequence[CheckedRange], cost: int | None = None) -> list[Sheet]:
     """The table of the utilities with a range, and what is said of each; nothing where there is none."""
     if not ranges:
         return []
+    told = tuple((range_told(checked, Shown(case.basis)),) for checked in ranges)
+    return [ranges_sheet(case, cost), Sheet('What that rests on', (), told)]
+
+
+def heat_facts(case: Case) -> FactRow:
+    """What each utility with a range gives or takes, in a table of many cases."""
     shown = Shown(case.basis)
-    told = tuple((range_told(checked, shown),) for checked in ranges)
-    return [ranges_table(case, ranges, cost).sheet(), Sheet('What that rests on', (), told)]
+    return tuple(Fact(utility.name, Decimal(shown.heat(heat_of_parts(range_parts(case, utility)))), shown.heat_unit)
+                 for utility in case.basis.ranges)
 
 
-def range_facts(checked: CheckedRange, shown: Shown) -> FactRow:
-    parts = checked.parts
-    return (Fact('utility', checked.utility.name), Fact('side', checked.side.value),
+def range_facts(utility: RangedUtility, parts: Sequence[Stream], shown: Shown) -> FactRow:
+    heat = heat_of_parts(parts)
+    return (Fact('utility', utility.name), Fact('side', parts[0].side.value),
             Fact('from', Decimal(shown.temperature(parts[0].supply)), shown.temperature_unit),
             Fact('to', Decimal(shown.temperature(parts[-1].target)), shown.temperature_unit),
-            Fact('CP', Decimal(shown.flow(checked.cp)), shown.flow_unit),
-            Fact('heat', Decimal(shown.heat(checked.heat)), shown.heat_unit),
-            Fact('price', Decimal(shown.price(checked.utility.price)), shown.price_unit),
-            Fact('cost', Decimal(shown.cost(checked.cost)), shown.cost_unit))
+            Fact('CP', Decimal(shown.flow(leading(parts).cp)), shown.flow_unit),
+            Fact('heat', Decimal(shown.heat(heat)), shown.heat_unit),
+            Fact('price', Decimal(shown.price(utility.price)), shown.price_unit),
+            Fact('cost', Decimal(shown.cost(utility.price * heat)), shown.cost_unit))

@@ -7,6 +7,7 @@ from ..formats.shown import Shown
 from ..program.run import Pinch
 from ..program.verdicts import Accepted
 from ..report.answer_sheets import audit_sheets, audit_told, balance_facts
+from ..report.range_sheets import heat_facts, ranges_sheet
 from ..search.budget import Telling, nobody
 from .shared import CASE, NETWORK, SHOWN_IN, CaseShown, areas_beside, ended, open_notes, with_areas
 from .word import Answer, Files, Word
@@ -18,8 +19,11 @@ def audit(files: Files, _: CaseShown = CaseShown(), tell: Telling = nobody) -> A
         pinch = Pinch()
         followed, verdict = audited(pinch, case.content, network.content)
         beside = areas_beside(pinch, followed, verdict)
-    facts = balance_facts(verdict, Shown(followed.case.basis)) if isinstance(verdict, Accepted) else ()
-    answer = Answer(tuple(audit_sheets(followed, verdict)), facts=(facts,), headline=audit_told(followed, verdict),
+    of_case = followed.case
+    ranges = [ranges_sheet(of_case, verdict.cost)] if isinstance(verdict, Accepted) and of_case.basis.ranges else []
+    facts = (*balance_facts(verdict, Shown(of_case.basis)), *heat_facts(of_case)) if isinstance(verdict, Accepted) \
+        else ()
+    answer = Answer((*audit_sheets(followed, verdict), *ranges), facts=(facts,), headline=audit_told(followed, verdict),
                     notes=open_notes(network, followed))
     return ended(with_areas(answer, beside), [verdict])
 

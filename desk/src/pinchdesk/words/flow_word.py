@@ -7,7 +7,7 @@ from ..formats.shown import Shown
 from ..program.answers import Cut
 from ..program.run import Pinch
 from ..report.answer_sheets import cut_told, flow_facts, flow_sheets
-from ..report.range_sheets import range_sheets
+from ..report.range_sheets import heat_facts, range_sheets
 from ..search.budget import Telling, nobody
 from .shared import CASE, SHOWN_IN, CaseShown, completed_case
 from .word import Answer, Files, Word, feasibility
@@ -21,7 +21,7 @@ def flow(files: Files, _: CaseShown = CaseShown(), tell: Telling = nobody) -> An
         cut = printed if isinstance(printed, Cut) else None
         least = None if isinstance(printed, Cut) else printed.cost
         ranges = range_sheets(case, checked_ranges(pinch, case), least)
-    return Answer((*flow_sheets(case, printed), *ranges), facts=(flow_facts(case, printed),),
+    return Answer((*flow_sheets(case, printed), *ranges), facts=((*flow_facts(case, printed), *heat_facts(case)),),
                   headline=cut_told(cut, Shown(case.basis)) if cut else '', status=feasibility(cut is None))
 
 

@@ -5,7 +5,7 @@ from ..analysis.range_sizes import checked_ranges
 from ..errors import about
 from ..program.run import Pinch
 from ..report.answer_sheets import targets_facts, targets_sheets
-from ..report.range_sheets import range_sheets
+from ..report.range_sheets import heat_facts, range_sheets
 from ..search.budget import Telling, nobody
 from .shared import CASE, SHOWN_IN, CaseShown, completed_case, rounding_told
 from .word import Answer, Files, Word
@@ -17,8 +17,8 @@ def targets(files: Files, _: CaseShown = CaseShown(), tell: Telling = nobody) ->
         pinch = Pinch()
         printed, case = pinch.targets(file.content), completed_case(file.content)
         ranges = range_sheets(case, checked_ranges(pinch, case))
-    return Answer((*targets_sheets(case, printed), *ranges), facts=(targets_facts(case, printed),),
-                  notes=rounding_told(file, case))
+    facts = (*targets_facts(case, printed), *heat_facts(case))
+    return Answer((*targets_sheets(case, printed), *ranges), facts=(facts,), notes=rounding_told(file, case))
 
 
 TARGETS = Word('targets', 'the least hot and cold utility, and the pinches',

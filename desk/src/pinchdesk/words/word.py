@@ -9,7 +9,7 @@ from typing import Any, Generic, TypeVar
 from ..errors import INFEASIBLE, Status
 from ..formats.case import rounding_of, said_in_si
 from ..report.facts import FactRow
-from ..report.range_sheets import ranges_told
+from ..report.range_sheets import ranges_told, with_ranges_sheet
 from ..report.sheet import Sheet, rendered
 from ..search.budget import Telling
 from .forms import TABLE, Forms
@@ -159,9 +159,13 @@ class Word(Generic[Options]):
             files = files.each_of('case', said_in_si)
         answer = self.run(files, options, tell)
         said = [(file.name, rounding_of(file.content)) for file in files.several('case')]
-        said += [(file.name, told) for file in files.several('case') for told in ranges_told(file.content)]
+        sheets = answer.sheets
+        for file in files.several('case'):
+            sheets = with_ranges_sheet(sheets, file.content)
+            said += [] if sheets else [(file.name, told) for told in ranges_told(file.content)]
         notes = [f'{name}: {told}' for name, told in said if told]
-        return replace(answer, notes=(*answer.notes, *(note for note in notes if note not in answer.notes)))
+        return replace(answer, sheets=sheets,
+                       notes=(*answer.notes, *(note for note in notes if note not in answer.notes)))
 
 
 @dataclass(frozen=True)
