@@ -14,6 +14,7 @@ from math import ceil, floor, lcm
 
 from ..formats.case import ANY_HEAT, Case, Forbid, Side, Source, Stream, Utility, shifted
 from ..formats.network import End, Mix, Network, Pass, Split
+from ..formats.ranges import kept_ranges
 from ..formats.segments import SegmentedStream, kept_segments, segment_fault
 from ..tables.names import apart, fitted
 from .follow import Branch, Followed
@@ -207,7 +208,8 @@ def rest_case(case: Case, lefts: Sequence[Left], used: Mapping[str, Fraction], s
     segments = rest_segments(case, streams)
     sources: tuple[Source, ...] = (*streams, *utilities)
     kept = {*(source.name for source in sources), *(segmented.name for segmented in segments)}
-    basis = replace(case.basis, scale=case.basis.scale * scale.factor, segments=segments,
+    ranges = tuple(replace(utility, lacking=None) for utility in kept_ranges(case.basis.ranges, kept))
+    basis = replace(case.basis, scale=case.basis.scale * scale.factor, segments=segments, ranges=ranges,
                     names=tuple(renamed for renamed in case.basis.names if renamed[1] in kept))
     return Case(case.contribution if scale.degrees == 1 else 0, streams, utilities, forbids, basis)
 

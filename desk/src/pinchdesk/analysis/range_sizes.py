@@ -138,19 +138,27 @@ class Sizing:
     def least_enough(self, utility: UnsizedRange) -> int:
         """The least CP with which no other utility is needed on its side; `Refused` where none is enough."""
         least, most = self.bounds(utility)
-
-        def is_enough(cp: int) -> bool:
-            return lacking(self.pinch, self.trial({utility.name: cp}), utility.side) is None
-        found = least_that(is_enough, least, most + 1)
+        lacks = self.lacks(utility, least)
+        if lacks is None:
+            return least
+        # Less than all that lacks is not enough, but for what is rounded of several segments.
+        guess = min(most, least + lacks.heat // heat_of_parts(sized(utility.parts, 1)))
+        found = least_that(lambda cp: self.lacks(utility, cp) is None, guess, most + 1)
         if found > most:
             raise self.not_enough(utility, most)
+        while found > least and self.lacks(utility, found - 1) is None:
+            found -= 1
         return found
+
+    def lacks(self, utility: UnsizedRange, cp: int) -> Lacking | None:
+        """What lacks with this CP and no other utility on its side."""
+        return lacking(self.pinch, self.trial({utility.name: cp}), utility.side)
 
     def not_enough(self, utility: UnsizedRange, most: int) -> Refused:
         """That the greatest size is not enough, with what lacks and why."""
         shown, side = Shown(self.base.basis), utility.side
-        lacks = lacking(self.pinch, self.trial({utility.name: most}), side) or Lacking(0, 0)
-        less = lacking(self.pinch, self.trial({utility.name: max(0, most - 1)}), side) or lacks
+        lacks = self.lacks(utility, most) or Lacking(0, 0)
+        less = self.lacks(utility, max(0, most - 1)) or lacks
         heat = f'{shown.heat(lacks.heat)} {shown.heat_unit}'
         way = 'hot' if side is Side.HOT else 'cold'
         limit = f'the greatest CP that it can have, {shown.flow(most)} {shown.flow_unit}'
@@ -207,6 +215,7 @@ class SizedCase:
 
     case: Case
     notes: tuple[str, ...]
+    checked: tuple[CheckedRange, ...]
 
 
 def with_sizes(pinch: Pinch, base: Case, ranges: Sequence[UnsizedRange], forbids: Sequence[Forbid] = ()) -> SizedCase:
@@ -225,11 +234,12 @@ def with_sizes(pinch: Pinch, base: Case, ranges: Sequence[UnsizedRange], forbids
     basis = replace(bare.basis, segments=(*base.basis.segments, *segments), ranges=found,
                     cost_rows=tuple(row for row in bare.basis.cost_rows if not sources_of(row) & unused_names))
     case = replace(bare, basis=basis)
-    kept = tuple(replace(utility, lacking=checked_range(pinch, case, utility).less_lacking) for utility in found)
+    checked = checked_ranges(pinch, case)
+    kept = tuple(replace(one.utility, lacking=one.less_lacking) for one in checked)
     case = replace(case, basis=replace(basis, ranges=kept))
     unused = tuple(f'{utility.name} is not used: no heat of it is needed, or others are cheaper'
                    for utility in ranges if utility not in used)
-    return SizedCase(case, (*unused, *standing_told(base, case)))
+    return SizedCase(case, (*unused, *standing_told(base, case)), checked)
 
 
 def check_counts(base: Case, ranges: Sequence[UnsizedRange]) -> None:
@@ -327,7 +337,8 @@ def checked_range(pinch: Pinch, case: Case, utility: RangedUtility) -> CheckedRa
     if not is_last(case, utility, side):
         return CheckedRange(utility, parts, 0, None, dearer_by(pinch, case, less, utility), 0)
     beside = lacking(pinch, case, side)
-    without, with_it = (lacking(pinch, needing(asked, side), side) for asked in (gone, case))
+    without, needed = lacking(pinch, needing(gone, side), side), needing(case, side)
+    with_it = beside if needed is case else lacking(pinch, needed, side)
     served = (without.heat if without else 0) - (with_it.heat if with_it else 0)
     return CheckedRange(utility, parts, beside.heat if beside else 0, lacking(pinch, less, side), None,
                         heat_of_parts(parts) - served)
@@ -336,10 +347,11 @@ def checked_range(pinch: Pinch, case: Case, utility: RangedUtility) -> CheckedRa
 def needing(case: Case, side: Side) -> Case:
     """The case that a utility of this side has to serve: what the hot side has too much the cold one takes, so that the
     cold streams that are utilities are none of the need for a hot one."""
-    if side is Side.COLD:
+    parts = parts_of_streams(case)
+    utilities = {part.name for utility in case.basis.ranges for part in parts.get(utility.name, ())
+                 if side is Side.HOT and part.side is Side.COLD}
+    if not utilities:
         return case
-    utilities = {part.name for utility in case.basis.ranges if utility.name in parts_of_streams(case)
-                 for part in range_parts(case, utility) if part.side is Side.COLD}
     return lawful(replace(case, streams=tuple(stream for stream in case.streams if stream.name not in utilities)))
 
 

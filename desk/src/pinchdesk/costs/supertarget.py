@@ -88,6 +88,9 @@ def supertarget(case: CaseText, first: int, last: int, step: int, pinch: Pinch |
     if not 0 <= first <= last <= MOST_CONTRIBUTION or step < 1:
         raise WordsError('a supertarget goes from a least difference of at least 0 K to one of at most 200 K, in steps '
                          'of at least 0.2 K')
+    if whole.basis.ranges:
+        raise Refused(3, 'case', 'range', f'case: {whole.basis.ranges[0].name} is a utility with a range, whose size '
+                      'is that of one least difference: make the case with --ranges level for a supertarget')
     data, by_sets = CostData(whole), len(whole.sources) <= MOST_IN_SETS
     shifts = range(first, last + 1, step)
     with ThreadPoolExecutor(workers) as pool:

@@ -23,7 +23,7 @@ COLUMNS = {'stream': {'name': 1, 'supply': 2, 'target': 3, 'flow': 4, 'load': 5,
            'forbid': {'hot': 1, 'cold': 2}}
 # Where the names of sources stand in rows, comments of the desk among them.
 NAMED = {'hot': (1,), 'cold': (1,), 'heater': (1,), 'cooler': (1,), 'forbid': (1, 2), '#name': (2,), '#segment': (2,),
-         '#film': (1,), '#overall': (1, 4), '#material': (1,), '#range': (1,)}
+         '#film': (1,), '#overall': (1, 4), '#material': (1,), '#range': (1,), '#utility': (1,)}
 
 
 @dataclass(frozen=True)
@@ -165,15 +165,15 @@ def renamed(lines: CaseLines, old: str, new: str) -> CaseLines:
 
 
 def removed(text: str, row: str) -> str:
-    """The text without a row, and without the forbidden matches, the segment and the name of what goes."""
+    """The text without a row, and without the forbidden matches, the segment, the name and the price of what goes."""
     lines = case_lines(text)
     at = lines.found(row)
     name = lines.rows[at][1] if lines.rows[at][0] != 'forbid' else None
     lines = lines.with_row(at, None)
     for place in reversed(range(len(lines.rows))):
         fields = lines.rows[place]
-        named = fields[0] in ('forbid', '#segment', '#name') and any(fields[at] == name for at in NAMED[fields[0]]) \
-            if name and fields else False
+        gone = fields[0] in ('forbid', '#segment', '#name', '#utility') if fields else False
+        named = gone and name is not None and any(fields[at] == name for at in NAMED[fields[0]])
         if named:
             lines = lines.with_row(place, None)
     return lines.text()

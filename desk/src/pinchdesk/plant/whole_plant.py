@@ -263,7 +263,7 @@ class Plant:
 
 def read(source: str | os.PathLike[str] | bytes, name: str = '', *, difference: Number | None = None,
          sheet: str | None = None, separator: str | None = None, decimal: str | None = None, scale: Number = 1,
-         hours: Number | None = None, tolerance: Number = 0, units: str = 'SI') -> Plant:
+         hours: Number | None = None, tolerance: Number = 0, units: str = 'SI', ranges: str = 'stream') -> Plant:
     """A plant from the file of its table (.xlsx, or text with separators), or from a case file; of bytes `name` is what
     the file is called. The options are those of the word `case`. `Refused` where something is not understood, or is
     ambiguous."""
@@ -283,5 +283,6 @@ def read(source: str | os.PathLike[str] | bytes, name: str = '', *, difference: 
         plant = Plant(path, content.decode('utf-8', 'replace'), (f'read as a case file, {said}',))
         return plant if plant.asked_targets else plant
     pinch = Pinch()
-    table = converted(pinch, TextFile(path, content), replace(asked, own_units=units == 'table'))
+    asked = replace(asked, own_units=units == 'table', levels=ranges == 'level')
+    table = converted(pinch, TextFile(path, content), asked)
     return Plant(path, case_text(table), table.notes, pinch)

@@ -16,6 +16,7 @@ from typing import TYPE_CHECKING, Any
 from ..analysis.findings import headline
 from ..analysis.follow import Followed, PinchPoint, follow, pinches_of
 from ..analysis.joined import placed_count
+from ..analysis.range_sizes import checked_ranges
 from ..analysis.unfinished import unfinished_told
 from ..errors import Status, WordsError, about
 from ..formats.case import ANY_HEAT, Case, Side, completed, read_case
@@ -29,6 +30,7 @@ from ..program.verdicts import Accepted, Rejected, Verdict, ending
 from .answer_sheets import audit_sheets, flow_sheets, targets_sheets
 from .exchangers import exchangers_sheet, flow_of, mixes_sheets, segments_of, streams_sheets, sums_sheet
 from .page_head import PageHead, digests_sheet, head_sheet, made_again
+from .range_sheets import range_sheets
 from .sheet import Cell, Sheet
 
 if TYPE_CHECKING:
@@ -184,13 +186,14 @@ def grid_of(name: str, followed: Followed, pinches: tuple[PinchPoint, ...],
 
 def case_streams(case: Case) -> Sheet:
     """The streams in engineers' units, with the names that their table had."""
-    shown = Shown(case.basis)
+    shown, ranged = Shown(case.basis), {utility.name for utility in case.basis.ranges}
     rows: list[tuple[Cell, ...]] = []
     for stream in whole_streams(case):
         rows.append((stream.name, stream.side.value, Decimal(shown.temperature(stream.supply)),
                      Decimal(shown.temperature(stream.target)), flow_of(stream, shown),
                      Decimal(shown.heat(stream.heat)),
-                     Decimal(shown.difference(stream.contribution)), 'latent' if stream.latent else ''))
+                     Decimal(shown.difference(stream.contribution)),
+                     'utility' if stream.name in ranged else 'latent' if stream.latent else ''))
     degree, difference, heat = shown.temperature_unit, shown.difference_unit, shown.heat_unit
     headings = ('stream', 'side', f'supply {degree}', f'target {degree}', f'CP {shown.flow_unit}', f'load {heat}',
                 f'contribution {difference}', '')
@@ -265,7 +268,7 @@ def compared(networks: Sequence[Reviewed], shown: Shown) -> Sheet:
 @dataclass(frozen=True)
 class Review:
     """A case and its networks, answered and judged, as the page has them, and who did it; `table` is that of the case,
-    where it is given, and `understood` how it was."""
+    where it is given, and `understood` how it was; `ranges` is about utilities with a range."""
 
     case: Given
     answered: Answered
@@ -273,6 +276,7 @@ class Review:
     digests: Digests
     table: Given | None = None
     understood: Sheet | None = None
+    ranges: tuple[Sheet, ...] = ()
 
     @property
     def ending(self) -> tuple[Status, str]:
@@ -282,8 +286,10 @@ class Review:
 
 def review_of(pinch: Pinch, case: Given, networks: Sequence[Given]) -> Review:
     answered, verdicts = answers_of(pinch, case, networks)
-    return Review(case, answered, tuple(reviewed(answered, network, verdict)
-                                        for network, verdict in zip(networks, verdicts)), digests(pinch.path))
+    cost = None if isinstance(answered.flow, Cut) else answered.flow.cost
+    ranges = range_sheets(answered.case, checked_ranges(pinch, answered.case), cost)
+    judged = tuple(reviewed(answered, network, verdict) for network, verdict in zip(networks, verdicts))
+    return Review(case, answered, judged, digests(pinch.path), ranges=tuple(ranges))
 
 
 def page_of(review: Review, unfolded: bool = False, head: PageHead = PageHead()) -> str:
@@ -295,7 +301,7 @@ def page_of(review: Review, unfolded: bool = False, head: PageHead = PageHead())
     areas, area_pictures = areas_of_case(answered)
     values = {
         'case': review.case, 'answered': answered, 'networks': networks, 'shown': shown, 'unfolded': unfolded,
-        'targets': targets_sheets(answered.case, answered.targets), 'tables': case_sheets(answered),
+        'targets': [*targets_sheets(answered.case, answered.targets), *review.ranges], 'tables': case_sheets(answered),
         'flow': flow_sheets(answered.case, answered.flow), 'cut': isinstance(answered.flow, Cut),
         'curves': curves_of(answered), 'areas': areas, 'area_pictures': area_pictures,
         'compared': compared(networks, shown) if networks else None, 'bars': bars,

@@ -18,6 +18,7 @@ from .doubts import below_titles, note_words, open_pairs, two_units, units_in_wo
 from .least_difference import half, is_bare, said_difference
 from .own_units import ExactNumbers, in_own_units, whole
 from .prices import PriceFault, PriceUnit, Priced, priced
+from .range_segments import SegmentsOfRanges
 from .ranged import RangeRow, without_ranges
 from .rows import Body, Line
 from .segmented import SegmentRows, fit_segments
@@ -42,10 +43,14 @@ class Maker:
         self.priced: list[tuple[int, Line, Fraction | None, PriceUnit | None]] = []
         self.forbids: list[tuple[int, Forbid]] = []
         self.coefficients: list[CostRow] = []
+        self.segments_of_ranges = SegmentsOfRanges(told, entries, self.prices, segmented)
 
     def made(self, body: Body, names: dict[str, str]) -> Converted:
         for line in body.lines:
             self.take(line)
+        for ranged in self.segments_of_ranges.wholes():
+            self.utilities.append((ranged.row, ranged.utility, ranged.own))
+            self.priced.append((ranged.row, ranged.line, *ranged.price))
         share, exact_share, share_row = self.contribution(body)
         self.settle(body)
         if not self.streams:
@@ -55,14 +60,15 @@ class Maker:
         changed = tuple((old, new) for old, new in names.items() if old != new and old not in own)
         basis = replace(basis, scale=self.wanted.scale, names=changed, cost_rows=tuple(self.coefficients),
                         segments=fit_segments(self.segmented, names))
-        streams = tuple(replace(stream, contribution=share if own is None else own) for _, stream, own in self.streams)
+        streams = tuple(replace(stream, contribution=share if own is None else own)
+                        for _, stream, own in (*self.streams, *self.segments_of_ranges.streams))
         self.told.settle()
         case = Case(share, streams, tuple(utilities), tuple(forbid for _, forbid in self.forbids), basis)
         exact = tuple(self.entries.exact(line, side, exact_share) for line, side in self.stream_lines)
         numbers = self.numbers(exact_share)
         if self.wanted.own_units:
             case = in_own_units(case, numbers, self.reader, body.lines, self.told, self.entries.ends)
-        split = without_ranges(case, self.range_rows(case, numbers))
+        split = without_ranges(case, {**self.range_rows(case, numbers), **self.segments_of_ranges.rows(names)})
         return Converted(split.case, self.told.table, self.origins(split.case, share_row), tuple(self.told.notes),
                          body.comments, exact, self.blocks, body,
                          f'{Shown(case.basis).least_difference(case.contribution)}, {self.origin(share_row)}',
@@ -96,7 +102,8 @@ class Maker:
 
     def numbers(self, share: Fraction) -> ExactNumbers:
         """What the table says of each source, before anything was rounded."""
-        streams = tuple(self.entries.numbers(line, share) for line, _ in self.stream_lines)
+        lines = [*(line for line, _ in self.stream_lines), *self.segments_of_ranges.lines]
+        streams = tuple(self.entries.numbers(line, share) for line in lines)
         utilities = tuple(self.entries.numbers(line, share) for _, line, _, _ in self.priced)
         return ExactNumbers(share, streams, utilities)
 
@@ -147,6 +154,10 @@ class Maker:
     def take_utility(self, line: Line) -> None:
         sided = self.entries.with_side(line)
         if sided is None:
+            return
+        if self.segments_of_ranges.has(line):
+            self.segments_of_ranges.take(sided)
+            self.take_beside(sided)
             return
         utility, price = self.entries.utility(sided), self.prices.price(sided)
         if utility:

@@ -35,10 +35,12 @@ MOST_APART = Fraction(1, 100)
 
 @dataclass(frozen=True)
 class SegmentRows:
-    """The names that the segments of a stream of the table have, from its supply to its target."""
+    """The names that the segments of a stream of the table have, from its supply to its target; of a utility they are
+    in proportion."""
 
     name: str
     segments: tuple[str, ...]
+    is_utility: bool = False
 
 
 def with_segments(body: Body, reader: CellReader, told: Told) -> tuple[Body, tuple[SegmentRows, ...]]:
@@ -47,7 +49,7 @@ def with_segments(body: Body, reader: CellReader, told: Told) -> tuple[Body, tup
     lines = carried_down(below_names(body, reader, told), reader)
     groups: dict[str, list[int]] = {}
     for at, line in enumerate(lines):
-        if line.is_stream and line.name():
+        if line.name() and (line.is_stream or is_utility_segment(line)):
             groups.setdefault(line.name(), []).append(at)
     taken = {line.name() for line in lines}
     made: list[SegmentRows] = []
@@ -62,11 +64,19 @@ def with_segments(body: Body, reader: CellReader, told: Told) -> tuple[Body, tup
         for place in places:
             line = lines[place]
             lines[place] = named(line, names[chain.index(line)], side)
-        made.append(SegmentRows(name, names))
+        is_utility = not chain[0].is_stream
+        made.append(SegmentRows(name, names, is_utility))
         rows = 'has a heating curve' if chain[0].layout.curve else f'stands in {len(chain)} rows whose ends meet'
-        told.note(chain[0].row.number, None, f'`{name}` {rows}: one stream with the segments {names[0]} to '
+        what = 'utility' if is_utility else 'stream'
+        told.note(chain[0].row.number, None, f'`{name}` {rows}: one {what} with the segments {names[0]} to '
                   f'{names[-1]}')
     return replace(body, lines=tuple(lines)), tuple(made)
+
+
+def is_utility_segment(line: Line) -> bool:
+    """Whether a row may be a segment of a utility: it has both temperatures, and a size."""
+    return line.kind in ('heater', 'cooler', 'utility') and line.has(Heading.TARGET) and any(
+        line.has(heading) for heading in (Heading.CP, Heading.LOAD, Heading.SPECIFIC, Heading.LATENT))
 
 
 def below_names(body: Body, reader: CellReader, told: Told) -> list[Line]:

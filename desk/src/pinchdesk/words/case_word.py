@@ -3,7 +3,7 @@ from __future__ import annotations
 
 from dataclasses import dataclass, replace
 
-from ..analysis.range_sizes import checked_range, with_sizes
+from ..analysis.range_sizes import with_sizes
 from ..errors import Refused, of_file
 from ..formats.case import print_case, print_comments
 from ..formats.comments import DIFFERENCE, basis_rows
@@ -76,8 +76,9 @@ def with_ranges(table: Converted, pinch: Pinch) -> Converted:
         named = (at for at, utility in table.ranges if fault.text.startswith(f'{utility.name} '))
         raise table.table.refusal(next(named, row), None, fault.text) from fault
     shown = Shown(made.case.basis)
-    told = [f'{table.table.place(at, None)}: {range_told(checked_range(pinch, made.case, utility), shown)}'
-            for utility in made.case.basis.ranges for at, unsized in table.ranges if unsized.name == utility.name]
+    rows = {utility.name: at for at, utility in table.ranges}
+    told = [f'{table.table.place(rows[checked.utility.name], None)}: {range_told(checked, shown)}'
+            for checked in made.checked]
     return replace(table, case=made.case, notes=(*table.notes, *told, *made.notes))
 
 

@@ -85,6 +85,13 @@ def rounding_told(file: TextFile, case: Case) -> tuple[str, ...]:
     return told_of(file, [case.basis.rounding] if case.basis.rounding else [])
 
 
+def sizes_told(file: TextFile, case: Case) -> tuple[str, ...]:
+    """That utilities with a range keep their sizes where a word changes the case."""
+    names = ', '.join(utility.name for utility in case.basis.ranges)
+    return told_of(file, [f'utilities with a range ({names}) keep the sizes of the case in all rows; the others give '
+                          'and take the rest'] if names else [])
+
+
 def areas_beside(pinch: Pinch, followed: Followed, verdict: Verdict) -> AreasBeside | None:
     """The areas and costs beside an accepted network, all of it placed, whose case says something of them."""
     if not isinstance(verdict, Accepted) or not followed.case.basis.cost_rows or unfinished_told(followed):

@@ -7,7 +7,7 @@ from ..formats.case import units_of
 from ..program.run import Pinch
 from ..report.answer_sheets import sweep_table
 from ..search.budget import Telling, nobody
-from .shared import CASE, RANGE, SHOWN_IN, WORKERS, SweepOptions, completed_case, rounding_told
+from .shared import CASE, RANGE, SHOWN_IN, WORKERS, SweepOptions, completed_case, rounding_told, sizes_told
 from .word import Answer, Files, Word, feasibility
 
 
@@ -18,7 +18,7 @@ def sweep(files: Files, options: SweepOptions, tell: Telling = nobody) -> Answer
         pinch = Pinch()
         printed, case = pinch.sweep(file.content, *asked, options.workers), completed_case(file.content)
         table = sweep_table(case, printed, as_it_is(pinch, file.content, case))
-    return Answer((table.sheet(),), facts=table.rows, notes=rounding_told(file, case),
+    return Answer((table.sheet(),), facts=table.rows, notes=(*rounding_told(file, case), *sizes_told(file, case)),
                   status=feasibility(printed.feasible))
 
 

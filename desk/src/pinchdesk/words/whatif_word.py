@@ -11,7 +11,8 @@ from ..program.run import Pinch
 from ..report.facts import rows_of_tables
 from ..report.what_if_sheets import rounding_notes, what_if_tables
 from ..search.budget import Telling, nobody
-from .shared import CASE, DECIMAL, SHEET, SHOWN_IN, USUAL_WORKERS, WORKERS, CaseShown, rounding_told, told_of
+from .shared import (CASE, DECIMAL, SHEET, SHOWN_IN, USUAL_WORKERS, WORKERS, CaseShown, rounding_told, sizes_told,
+                     told_of)
 from .word import Answer, Files, Role, Word, feasibility
 
 CHANGES = Role('changes', 'scenarios: .xlsx, or text with separators; without them the plus-minus numbers alone',
@@ -39,7 +40,7 @@ def whatif(files: Files, options: WhatIfOptions = WhatIfOptions(), tell: Telling
             answered = compared(base, scenarios.variants, pinch, options.workers)
     tables = what_if_tables(answered)
     return Answer(tuple(table.sheet() for table in tables), facts=rows_of_tables(tables),
-                  notes=(*rounding_told(case, base.case),
+                  notes=(*rounding_told(case, base.case), *sizes_told(case, base.case),
                          *told_of(changes, (*scenarios.notes, *rounding_notes(answered)))),
                   status=Status.REFUSED if answered.refused else feasibility(not answered.infeasible))
 

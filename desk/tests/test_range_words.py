@@ -1,0 +1,189 @@
+"""What words say and do of utilities with a range: tables, answers, networks, the page, and what is left."""
+from __future__ import annotations
+
+from pathlib import Path
+
+import pytest
+
+from pinchdesk import Pinch, read_case
+from pinchdesk.errors import Refused
+from pinchdesk.formats.case import Case, print_case
+from pinchdesk.formats.cost_rows import Film
+from pinchdesk.formats.whole_streams import whole_streams
+from pinchdesk.live.case_lines import removed
+from pinchdesk.plant.whole_plant import read
+from pinchdesk.program.verdicts import Accepted, Rejected
+from pinchdesk.tables.convert import Wanted
+from pinchdesk.words.case_word import CaseOptions, case_text, converted
+from pinchdesk.words.table_of_case import ReadingOptions, understood_of
+from pinchdesk.words.word import TextFile
+
+from conftest import EXAMPLES, Done, pinchdesk
+from tabled import made, refusal
+
+HEAD = 'Kind;Name;Supply;Target;CP;Duty;Price\n;;°C;°C;kW/K;kW;EUR/MWh\n'
+FOUR = f'{HEAD}cold;C1;20;135;2;;\nhot;H2;170;60;3;;\ncold;C3;80;140;4;;\nhot;H4;150;30;1,5;;\n'
+BOTH = f'{FOUR}heater;flue gas;1500;160;;;35\ncooler;water;20;30;;;0,5\n'
+STEAM = f'{HEAD}hot;H;300;60;10;;\nheater;HP;310;;;;35\ncooler;steam;100;200;4,2;;-15\n' \
+        'cooler;steam;200;200;;1940;\ncooler;steam;200;250;2,5;;\ncooler;water;20;30;;;0,5\n'
+
+
+def case_of(table: str, difference: str = '10', **options: str) -> Case:
+    asked = CaseOptions(difference, **options).wanted
+    return converted(Pinch(), TextFile('t.csv', table.encode()), asked).case
+
+
+@pytest.fixture(name='plant')
+def plant_of(tmp_path: Path) -> Path:
+    """The case of four streams with flue gas and cooling water, in a folder of its own."""
+    (tmp_path / 't.csv').write_text(BOTH, encoding='utf-8')
+    assert pinchdesk('case', '-d', '10', 't.csv', '-o', 'case.csv', cwd=tmp_path).status == 0
+    return tmp_path
+
+
+def answer(*words: str, cwd: Path) -> Done:
+    done = pinchdesk(*words, cwd=cwd)
+    assert done.status == 0, done.err
+    return done
+
+
+def test_what_was_found_is_reported_with_what_it_rests_on(tmp_path: Path) -> None:
+    (tmp_path / 't.csv').write_text(BOTH, encoding='utf-8')
+    err = answer('case', '-d', '10', 't.csv', cwd=tmp_path).err
+    assert 'row 7: flue-gas is a hot utility from 1500 to 160 °C, held as a stream: it gives 26.8 kW with a CP of ' \
+           '0.02 kW/K; with 0.01 kW/K it is not enough: 13.4 kW are missing; 6.8 kW of that are more than is ' \
+           'needed' in err
+    assert 'row 8: water is a cold utility from 20 to 30 °C' in err and 'HOT stands in for what whole units' in err
+
+
+def test_a_range_is_a_level_only_where_that_is_asked_for(tmp_path: Path) -> None:
+    (tmp_path / 't.csv').write_text(BOTH, encoding='utf-8')
+    done = answer('case', '-d', '10', '--ranges', 'level', 't.csv', cwd=tmp_path)
+    assert 'heater,flue-gas,1600,0,1000000000000,350,' in done.out and '#utility' not in done.out
+    assert 'of 1500 °C to 160 °C the end that is worth less is taken, 160 °C' in done.err
+    plant = read(BOTH.encode(), 't.csv', difference=10, ranges='level')
+    assert [utility.level for utility in plant.case.utilities] == [1600, 300]
+
+
+def test_a_utility_in_segments_is_one_stream(pinch: Pinch) -> None:
+    case = case_of(STEAM)
+    whole, = (stream for stream in whole_streams(case) if stream.name == 'steam')
+    assert (whole.supply, whole.target, len(case.basis.segments[0].segments)) == (1000, 2500, 3)
+    first, boiling, last = (case.source(f'steam-{at}') for at in (1, 2, 3))
+    assert abs(boiling.load * 420 - first.cp * 1_940_000) <= 420 and abs(last.cp * 420 - first.cp * 250) <= 420
+    assert read_case(print_case(case)) == case and pinch.targets(case).cold == 0
+
+
+@pytest.mark.parametrize('old, new, cause', [
+    (';0,5', ';', 'the price of water is missing'),
+    ('1940;', '1940;-14', 'have two prices: a utility has one'),
+    ('cooler;steam;200;250', 'cooler;steam;210;250', 'the segments of a stream meet'),
+    ('cooler;water;20;30', 'cooler;water;30;20', 'runs the other way')])
+def test_what_is_wrong_with_a_range_is_refused_by_its_row(old: str, new: str, cause: str) -> None:
+    assert old in STEAM and cause in refusal(STEAM.replace(old, new, 1))
+
+
+def test_one_that_is_not_hot_enough_is_refused_by_its_row() -> None:
+    with pytest.raises(Refused) as refused:
+        case_of(BOTH.replace('1500;160', '80;60'))
+    assert 'row 7: flue-gas is not enough' in refused.value.text and 'not hot enough' in refused.value.text
+
+
+def test_a_range_in_the_units_of_its_table_is_whole_there(pinch: Pinch) -> None:
+    table = 'Kind;Name;Supply;Target;CP\n;;°F;°F;Btu/(h °F)\nhot;H;350;160;1000\ncold;C;100;250;500\n' \
+            'cooler;CW;70;90;\n'
+    case = case_of(table, '18 °F', units='table')
+    water = case.source('CW')
+    assert (water.supply, water.target, case.basis.units.temperature) == (700, 900, '°F')
+    assert pinch.targets(case).cold == 0 and read_case(print_case(case)) == case
+
+
+def test_words_show_them_with_their_cost_beside_that_of_the_program(plant: Path) -> None:
+    targets, flow = (answer(word, 'case.csv', cwd=plant).out for word in ('targets', 'flow'))
+    assert 'flue-gas     hot      1500    160     0.02     26.8' in targets
+    assert 'with 6.67 kW/K it is not enough: 0.1 kW are missing' in targets
+    assert 'with the cost of the program' in flow and flow.count('0.971') == 2
+    assert 'Utilities with a range, as streams' in answer('units', 'case.csv', cwd=plant).out
+    (plant / 'list.txt').write_text('case.csv\n', encoding='utf-8')
+    assert 'flue-gas kW,water kW' in answer('many', 'targets', 'list.txt', '--form', 'csv', cwd=plant).out
+
+
+def test_the_real_ends_are_audited(plant: Path, pinch: Pinch) -> None:
+    """A hot stream from 38 °C has water of 30 °C at its hot end, 8 K away; at 20 °C it would be far enough."""
+    design = pinch.design((plant / 'case.csv').read_bytes())
+    verdict = pinch.audit((plant / 'case.csv').read_bytes(), design.text)
+    assert isinstance(verdict, Accepted) and verdict.cost == 0
+    case = '#utility,W,0,80,,,\ncontribution,,50,,,,\nhot,H,380,300,100,,\ncold,W,200,300,80,,\n'
+    network = 'exchanger E H W 8000\npass H E h\nend h\npass W E w\nend w\n'
+    rejected = pinch.audit(case, network)
+    assert isinstance(rejected, Rejected) and rejected.reason == 'HotEndApproach'
+    (plant / 'net.txt').write_text(design.text, encoding='utf-8')
+    audited = answer('audit', 'case.csv', 'net.txt', cwd=plant).out
+    assert 'with the cost of the program' in audited and '0.971' in audited
+
+
+def test_the_table_that_they_came_from_is_found_again(plant: Path) -> None:
+    case, table = read_case((plant / 'case.csv').read_bytes()), TextFile('t.csv', BOTH.encode())
+    assert understood_of(table, case, ReadingOptions()).rows
+    levels = case_of(BOTH, ranges='level')
+    assert understood_of(table, levels, ReadingOptions()).rows
+    with pytest.raises(Refused) as refused:
+        understood_of(table, case_of(BOTH.replace('1500', '1400')), ReadingOptions())
+    assert 'another case' in refused.value.text
+
+
+@pytest.mark.long
+def test_the_page_has_them(plant: Path) -> None:
+    answer('page', 'case.csv', '--table', 't.csv', '-o', 'p.html', cwd=plant)
+    page = (plant / 'p.html').read_text(encoding='utf-8')
+    assert 'Utilities with a range, as streams' in page and '<td>utility</td>' in page
+    assert 'it is not enough: 0.1 kW are missing' in page
+
+
+def test_what_is_left_and_what_is_taken_out_is_a_case_again(plant: Path) -> None:
+    text = (plant / 'case.csv').read_text(encoding='utf-8')
+    (plant / 'begun.txt').write_text('exchanger E flue-gas C1 26800\npass flue-gas E f\nend f\npass C1 E c\n',
+                                     encoding='utf-8')
+    answer('rest', 'case.csv', 'begun.txt', '--case', 'rest.csv', cwd=plant)
+    left = read_case((plant / 'rest.csv').read_bytes())
+    assert [utility.name for utility in left.basis.ranges] == ['water']
+    assert [utility.name for utility in read_case(removed(text, 'stream water')).basis.ranges] == ['flue-gas']
+
+
+def test_words_that_change_the_case_say_that_the_sizes_stay(plant: Path) -> None:
+    assert 'keep the sizes of the case in all rows' in answer('sweep', 'case.csv', '5', '10', '5', cwd=plant).err
+    done = pinchdesk('supertarget', 'case.csv', '10', '20', '10', cwd=plant)
+    assert done.status == 3 and 'make the case with --ranges level for a supertarget' in done.err
+
+
+def test_costs_a_year_have_them_beside(plant: Path) -> None:
+    rows = '#overall,,500,W/m2K,,,\n#law,,,1000,500,1,m2\n#build,,counter-current,,,,exchanger\n' \
+           '#capital,EUR,1,,,,\n#annual,factor,0.2,,8000,,\n'
+    text = rows + (plant / 'case.csv').read_text(encoding='utf-8')
+    (plant / 'cost.csv').write_text(text, encoding='utf-8')
+    out = answer('cost', 'cost.csv', cwd=plant).out
+    assert 'utilities with a range a year' in out and '7771.2' in out and 'annual cost with these' in out
+
+
+def test_coefficients_of_them_are_kept(pinch: Pinch) -> None:
+    """With them those of what stands in; those of a utility that is not used go with it."""
+    table = 'Kind;Name;Supply;Target;CP;Price;h\n;;°C;°C;kW/K;EUR/MWh;kW/m2K\nhot;H;150;60;2;;1\n' \
+            'heater;gas;900;200;;30;0,1\ncooler;water;20;30;;1;2\n'
+    case = case_of(table)
+    rows = [(row.source, row.coefficient.value) for row in case.basis.cost_rows if isinstance(row, Film)]
+    assert [source for source, _ in rows] == ['H', 'water', 'HOT', 'COLD'] and pinch.targets(case).cold == 0
+
+
+@pytest.mark.long
+def test_a_network_is_found_and_accepted(plant: Path) -> None:
+    answer('network', 'case.csv', '--seconds', '5', '-o', 'net.txt', cwd=plant)
+    out = answer('table', 'case.csv', 'net.txt', cwd=plant).out
+    assert out.startswith('accepted') and 'flue-gas' in out
+
+
+def test_the_example_of_the_guide(pinch: Pinch) -> None:
+    table = converted(pinch, TextFile('t', (EXAMPLES / 'flue-gas-table.txt').read_bytes()), Wanted('10'))
+    assert [(utility.name, utility.cp) for utility in table.case.basis.ranges] == [
+        ('flue-gas', 150), ('cooling-water', 60_100)]
+    assert read_case(case_text(table)).streams == table.case.streams
+    assert not made((EXAMPLES / 'flue-gas-table.txt').read_bytes()).case.utilities
