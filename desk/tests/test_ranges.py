@@ -8,7 +8,8 @@ from hypothesis import given
 from hypothesis import strategies as some
 
 from pinchdesk import Case, Pinch, Refused, Side, Stream, Utility, read_case
-from pinchdesk.analysis.range_sizes import checked_range, checked_ranges, lacking, least_that, with_sizes
+from pinchdesk.analysis.range_checks import checked_range, checked_ranges, lacking
+from pinchdesk.analysis.range_sizes import least_that, with_sizes
 from pinchdesk.formats.case import ANY_HEAT, Forbid, print_case
 from pinchdesk.formats.comments import Basis, basis_rows, noted
 from pinchdesk.formats.limits import CP

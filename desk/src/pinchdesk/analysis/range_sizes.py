@@ -13,78 +13,27 @@ from collections.abc import Callable, Mapping, Sequence
 from dataclasses import dataclass, field, replace
 
 from ..errors import Refused
-from ..formats.case import ANY_HEAT, Case, Forbid, Side, Stream, Utility, parts_of_streams, print_case
+from ..formats.case import ANY_HEAT, Case, Forbid, Side, Utility, print_case
 from ..formats.cost_rows import CostRow, Film, Material, Overall
-from ..formats.limits import MOST_COLD, MOST_HOT, MOST_UTILITIES, TEMPERATURE
-from ..formats.range_parts import UnsizedRange, greatest_cp, heat_of_parts, leading, range_parts, sized
+from ..formats.limits import MOST_COLD, MOST_HOT, MOST_UTILITIES
+from ..formats.range_parts import UnsizedRange, greatest_cp, heat_of_parts, sized
 from ..formats.ranges import Lacking, RangedUtility
 from ..formats.segments import SegmentedStream
 from ..formats.shown import Shown
 from ..program.answers import Cut, HeatFlow
 from ..program.run import Pinch
+from .range_checks import STANDING, CheckedRange, checked_ranges, has_level, lacking, lawful, other_side
 
-STANDING = {Side.HOT: 'HOT', Side.COLD: 'COLD'}
 # Beside the utilities of the table a trial has one on each side.
 MOST_SIZED = MOST_UTILITIES - 2
-
-
-def other_side(side: Side) -> Side:
-    return Side.COLD if side is Side.HOT else Side.HOT
-
-
-def free_name(name: str, case: Case) -> str:
-    """A name that no source of the case has."""
-    taken = {source.name for source in case.sources}
-    return name if name not in taken else next(made for made in (f'{name}-{at}' for at in range(100))
-                                               if made not in taken)
-
-
-def standing_in(case: Case, side: Side, most: int) -> Utility:
-    """A utility at the outermost end of all streams, free of cost, of so much heat at most."""
-    ends = [stream.high if side is Side.HOT else stream.low for stream in case.streams]
-    level = max(ends) if side is Side.HOT else min(ends)
-    # Only a heater may be called HOT, and only a cooler COLD.
-    name = free_name(STANDING[side], case)
-    return Utility(name, side, max(TEMPERATURE.least, min(TEMPERATURE.most, level)), 0, most, 0, 0)
-
-
-def has_level(case: Case, side: Side) -> bool:
-    return any(utility.side is side and not utility.invented for utility in case.utilities)
-
-
-def lawful(case: Case) -> Case:
-    """The case with the forbidden matches of the sources that it has."""
-    names = {source.name for source in case.sources}
-    return replace(case, forbids=tuple(forbid for forbid in case.forbids
-                                       if forbid.hot in names and forbid.cold in names))
-
-
-def alone(case: Case, side: Side) -> Case:
-    """The case with no utility on this side, and with as much as is needed on the other one."""
-    utilities = [utility for utility in case.utilities if utility.side is not side and not utility.invented]
-    bare = replace(case, utilities=tuple(utilities))
-    beside = [standing_in(bare, other_side(side), ANY_HEAT)] if utilities else []
-    return lawful(replace(bare, utilities=(*utilities, *beside, standing_in(bare, side, 0))))
-
-
-def lacking(pinch: Pinch, case: Case, side: Side) -> Lacking | None:
-    """What lacks on the other side where no utility is on this one; None where nothing does."""
-    flow = pinch.uses(print_case(alone(case, side)))
-    if not isinstance(flow, Cut) or flow.side is side:
-        return None
-    return Lacking(flow.need, flow.offer)
+# How often the sizes that are found by cost are looked at again.
+ROUNDS = 3
 
 
 def as_level(utility: UnsizedRange) -> Utility:
     """A utility with a range at the end where it is worth most."""
     first = utility.parts[0]
     return Utility(utility.name, first.side, first.supply, 0, ANY_HEAT, utility.price, first.contribution)
-
-
-def with_parts(case: Case, changed: Sequence[Stream]) -> Case:
-    """The case with these streams in place of those of their names."""
-    by_name = {stream.name: stream for stream in changed}
-    return replace(case, streams=tuple(by_name.get(stream.name, stream) for stream in case.streams))
 
 
 @dataclass
@@ -104,6 +53,7 @@ class Sizing:
         known = [(utility, sizes[utility.name]) for utility in self.ranges if utility.name in sizes]
         streams = [part for utility, cp in known if cp for part in sized(utility.parts, cp)]
         levels = [as_level(utility) for utility in self.ranges if utility.name not in sizes]
+        levels += [level for side in Side if (level := self.level_of_last(side, sizes))]
         parts = {utility.name: [part.name for part in utility.parts] for utility, cp in known}
         forbids = [Forbid(hot, cold) for forbid in self.forbids for hot in parts.get(forbid.hot, [forbid.hot])
                    for cold in parts.get(forbid.cold, [forbid.cold])]
@@ -111,16 +61,48 @@ class Sizing:
                               utilities=(*self.base.utilities, *levels), forbids=(*self.base.forbids, *forbids)))
 
     def find_all(self) -> None:
-        """Finds the sizes: of those that have others beside them by cost, the cheapest first; of the last one of each
-        side the least that is enough. What one side has too much the other one has to take: so the cold side comes
-        before the hot one, and once more after it."""
-        last = {side: self.last_of(side) for side in Side}
-        for utility in sorted(self.ranges, key=lambda utility: utility.price):
-            if utility is not last[utility.side]:
+        """Finds the sizes: of those that have others beside them by cost, the cheapest first, and then again where the
+        others have their sizes, the dearest first; of the last one of each side the least that is enough."""
+        last = [self.last_of(side) for side in Side]
+        chosen = sorted((utility for utility in self.ranges if utility not in last), key=lambda utility: utility.price)
+        for utility in chosen:
+            self.sizes[utility.name] = self.cheapest(utility)
+        self.find_last()
+        in_segments = any(len(utility.parts) > 1 for utility in self.ranges)
+        for _ in range(ROUNDS if chosen or in_segments else 0):
+            before = dict(self.sizes)
+            for utility in reversed(chosen):
                 self.sizes[utility.name] = self.cheapest(utility)
-        order = [last[Side.COLD], last[Side.HOT], *([last[Side.COLD]] if last[Side.HOT] else [])]
-        for utility in (utility for utility in order if utility):
-            self.sizes[utility.name] = self.least_enough(utility)
+            self.settle_segments()
+            if self.sizes == before:
+                break
+
+    def settle_segments(self) -> None:
+        """Finds the last sizes once more, with the segments of each as they are rounded now: what is said of one unit
+        less is said of these."""
+        last = [self.last_of(side) for side in Side]
+        self.ranges = tuple(
+            replace(utility, parts=sized(utility.parts, self.sizes[utility.name]))
+            if len(utility.parts) > 1 and self.sizes[utility.name] and utility in last else utility
+            for utility in self.ranges)
+        self.find_last()
+
+    def find_last(self) -> None:
+        """Finds the size of the last one of each side. What one side has too much the other one has to take: so the
+        cold side comes before the hot one, and once more after it."""
+        hot, cold = self.last_of(Side.HOT), self.last_of(Side.COLD)
+        for utility in (cold, hot, cold if hot else None):
+            if utility:
+                self.sizes[utility.name] = self.least_enough(utility)
+
+    def level_of_last(self, side: Side, sizes: Mapping[str, int]) -> Utility | None:
+        """What stands in for what whole units of CP leave, where the last one of a side has its size: at its supply and
+        its price. None where the program adds the same, at its own prices."""
+        last = self.last_of(side)
+        if last is None or last.name not in sizes:
+            return None
+        usual = not self.base.basis.price_unit and last.price == (side is Side.HOT)
+        return None if usual else replace(as_level(last), name=STANDING[side])
 
     def last_of(self, side: Side) -> UnsizedRange | None:
         """The dearest utility of a side that has none at a level."""
@@ -193,7 +175,11 @@ class Sizing:
             if isinstance(here, Side) or isinstance(more, Side):
                 return here is not utility.side and (here is other_side(utility.side) or isinstance(more, Side))
             return more >= here
-        return least_that(is_best, least, most)
+        found = least_that(is_best, least, most)
+        if found == greatest_cp(utility.parts):
+            raise Refused(3, '', 'range', f'{utility.name} makes a gain: the more of it there is the less all costs, '
+                          'up to what the program can hold. It needs a `most`, or the others do')
+        return found
 
 
 def least_that(holds: Callable[[int], bool], first: int, last: int) -> int:
@@ -225,7 +211,7 @@ def with_sizes(pinch: Pinch, base: Case, ranges: Sequence[UnsizedRange], forbids
     sizing = Sizing(pinch, base, ranges, forbids)
     sizing.find_all()
     used = [utility for utility in ranges if sizing.sizes[utility.name]]
-    bare = with_price_of_last(sizing.trial({}), sizing)
+    bare = with_rows_of_last(sizing.trial({}), sizing)
     unused_names = {name for utility in ranges if utility not in used
                     for name in (utility.name, *(part.name for part in utility.parts))}
     segments = tuple(SegmentedStream(utility.name, tuple(part.name for part in utility.parts))
@@ -259,18 +245,13 @@ def check_counts(base: Case, ranges: Sequence[UnsizedRange]) -> None:
         raise Refused(3, '', 'range', f'where some have a range, a table has at most {MOST_SIZED} utilities')
 
 
-def with_price_of_last(case: Case, sizing: Sizing) -> Case:
-    """The case where prices have a unit: with a utility that stands in, on each side that has none at a level, at the
-    supply, the price and the coefficients of the last one with a range. What is added by the program has no such
-    price."""
-    if not case.basis.price_unit:
-        return case
-    last = [(STANDING[side], utility) for side in Side if (utility := sizing.last_of(side)) is not None]
-    added = [replace(as_level(utility), name=name) for name, utility in last]
+def with_rows_of_last(case: Case, sizing: Sizing) -> Case:
+    """The case with the coefficients of the last one of each side for what stands in there."""
+    last = [(STANDING[side], utility) for side in Side
+            if sizing.level_of_last(side, sizing.sizes) and (utility := sizing.last_of(side))]
     rows = [replace(row, source=name) for name, utility in last for row in case.basis.cost_rows
             if isinstance(row, (Film, Overall, Material)) and row.source == utility.name]
-    return replace(case, utilities=(*case.utilities, *added),
-                   basis=replace(case.basis, cost_rows=(*case.basis.cost_rows, *rows)))
+    return replace(case, basis=replace(case.basis, cost_rows=(*case.basis.cost_rows, *rows)))
 
 
 def sources_of(row: CostRow) -> set[str]:
@@ -289,88 +270,3 @@ def standing_told(base: Case, case: Case) -> tuple[str, ...]:
     return tuple(f'{utility.name} stands in for what whole units of CP leave, at {shown.temperature(utility.level)} '
                  f'{shown.temperature_unit} and {shown.price(utility.price)} {shown.price_unit}'
                  for utility in case.utilities if utility.name not in before)
-
-
-@dataclass(frozen=True)
-class CheckedRange:
-    """A utility with a range as the case has it: what lacks beside it, what lacks with one unit of CP less, and by how
-    much that is dearer where nothing lacks; of one with other utilities on its side nothing lacks. `spare` is what it
-    gives or takes beyond the need of the case without it."""
-
-    utility: RangedUtility
-    parts: tuple[Stream, ...]
-    lacking: int
-    less_lacking: Lacking | None
-    dearer: int | None
-    spare: int
-
-    @property
-    def side(self) -> Side:
-        return self.parts[0].side
-
-    @property
-    def heat(self) -> int:
-        return heat_of_parts(self.parts)
-
-    @property
-    def cp(self) -> int:
-        return leading(self.parts).cp
-
-    @property
-    def cost(self) -> int:
-        """Its price times its heat, which the cost of the program does not have in it."""
-        return self.utility.price * self.heat
-
-    @property
-    def is_least(self) -> bool:
-        """Whether one unit of CP less is not enough, or is dearer."""
-        return (self.less_lacking.heat if self.less_lacking else 0) > self.lacking or (self.dearer or 0) > 0
-
-
-def checked_range(pinch: Pinch, case: Case, utility: RangedUtility) -> CheckedRange:
-    """Asks the program what one unit of CP less would do."""
-    parts = range_parts(case, utility)
-    side, cp = parts[0].side, leading(parts).cp
-    names = {part.name for part in parts}
-    gone = lawful(replace(case, streams=tuple(stream for stream in case.streams if stream.name not in names)))
-    less = with_parts(case, sized(parts, cp - 1)) if cp > 1 else gone
-    if not is_last(case, utility, side):
-        return CheckedRange(utility, parts, 0, None, dearer_by(pinch, case, less, utility), 0)
-    beside = lacking(pinch, case, side)
-    without, needed = lacking(pinch, needing(gone, side), side), needing(case, side)
-    with_it = beside if needed is case else lacking(pinch, needed, side)
-    served = (without.heat if without else 0) - (with_it.heat if with_it else 0)
-    return CheckedRange(utility, parts, beside.heat if beside else 0, lacking(pinch, less, side), None,
-                        heat_of_parts(parts) - served)
-
-
-def needing(case: Case, side: Side) -> Case:
-    """The case that a utility of this side has to serve: what the hot side has too much the cold one takes, so that the
-    cold streams that are utilities are none of the need for a hot one."""
-    parts = parts_of_streams(case)
-    utilities = {part.name for utility in case.basis.ranges for part in parts.get(utility.name, ())
-                 if side is Side.HOT and part.side is Side.COLD}
-    if not utilities:
-        return case
-    return lawful(replace(case, streams=tuple(stream for stream in case.streams if stream.name not in utilities)))
-
-
-def is_last(case: Case, utility: RangedUtility, side: Side) -> bool:
-    """Whether a utility is the dearest with a range on a side that has none at a level but what stands in."""
-    there = [other for other in case.basis.ranges if range_parts(case, other)[0].side is side]
-    levels = [level for level in case.utilities if level.side is side and level.name != STANDING[side]]
-    return not levels and utility == max(there, key=lambda other: other.price)
-
-
-def dearer_by(pinch: Pinch, case: Case, less: Case, utility: RangedUtility) -> int | None:
-    """By how much a case with less of a utility is dearer; None where one of both has no heat flow."""
-    here, there = pinch.uses(print_case(case)), pinch.uses(print_case(less))
-    if isinstance(here, Cut) or isinstance(there, Cut):
-        return None
-    saved = sum(stream.heat for stream in case.streams) - sum(stream.heat for stream in less.streams)
-    return there.cost - here.cost - utility.price * saved
-
-
-def checked_ranges(pinch: Pinch, case: Case) -> tuple[CheckedRange, ...]:
-    """All utilities with a range of a case, in their order."""
-    return tuple(checked_range(pinch, case, utility) for utility in case.basis.ranges)

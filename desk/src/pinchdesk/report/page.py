@@ -16,7 +16,7 @@ from typing import TYPE_CHECKING, Any
 from ..analysis.findings import headline
 from ..analysis.follow import Followed, PinchPoint, follow, pinches_of
 from ..analysis.joined import placed_count
-from ..analysis.range_sizes import checked_ranges
+from ..analysis.range_checks import checked_ranges, without_ranges
 from ..analysis.unfinished import unfinished_told
 from ..errors import Status, WordsError, about
 from ..formats.case import ANY_HEAT, Case, Side, completed, read_case
@@ -30,7 +30,7 @@ from ..program.verdicts import Accepted, Rejected, Verdict, ending
 from .answer_sheets import audit_sheets, flow_sheets, targets_sheets
 from .exchangers import exchangers_sheet, flow_of, mixes_sheets, segments_of, streams_sheets, sums_sheet
 from .page_head import PageHead, digests_sheet, head_sheet, made_again
-from .range_sheets import range_sheets
+from .range_sheets import plant_sheets, range_sheets
 from .sheet import Cell, Sheet
 
 if TYPE_CHECKING:
@@ -288,6 +288,8 @@ def review_of(pinch: Pinch, case: Given, networks: Sequence[Given]) -> Review:
     answered, verdicts = answers_of(pinch, case, networks)
     cost = None if isinstance(answered.flow, Cut) else answered.flow.cost
     ranges = range_sheets(answered.case, checked_ranges(pinch, answered.case), cost)
+    alone = without_ranges(answered.case) if answered.case.basis.ranges else None
+    ranges += plant_sheets(alone, pinch.targets(alone)) if alone else []
     judged = tuple(reviewed(answered, network, verdict) for network, verdict in zip(networks, verdicts))
     return Review(case, answered, judged, digests(pinch.path), ranges=tuple(ranges))
 

@@ -3,14 +3,17 @@ unit of its CP less would do."""
 from __future__ import annotations
 
 from collections.abc import Sequence
+from dataclasses import replace
 from decimal import Decimal
 
-from ..analysis.range_sizes import CheckedRange
+from ..analysis.range_checks import CheckedRange
 from ..errors import Refused
 from ..formats.case import Case, Side, Stream, read_case
 from ..formats.range_parts import cost_of_ranges, heat_of_parts, leading, range_parts, sized
 from ..formats.ranges import RangedUtility
 from ..formats.shown import Number, Shown
+from ..program.answers import Targets
+from .answer_sheets import targets_sheets
 from .facts import Fact, FactRow, FactTable
 from .sheet import Sheet
 
@@ -52,12 +55,18 @@ def ends_told(parts: Sequence[Stream], shown: Shown) -> str:
 
 def range_told(checked: CheckedRange, shown: Shown) -> str:
     """What a utility with a range is, and what that rests on, as a sentence."""
-    parts, side = checked.parts, checked.side
-    heat, flow = f'{shown.heat(checked.heat)} {shown.heat_unit}', f'{shown.flow(checked.cp)} {shown.flow_unit}'
-    size = f'a CP of {flow}' + (' in its largest segment' if len(parts) > 1 else '')
-    told = ''.join((less_told(checked, shown), beside_told(checked, shown), spare_told(checked, shown)))
-    return f'{checked.utility.name} is a {side.value} utility {ends_told(parts, shown)}, held as a stream: it ' \
-           f'{GIVES[side]} {heat} with {size}; {told}'
+    return f'{checked.utility.name} is a {checked.side.value} utility {ends_told(checked.parts, shown)}, held as a ' \
+           f'stream: it {"; ".join(clauses(checked, shown))}'
+
+
+def clauses(checked: CheckedRange, shown: Shown) -> list[str]:
+    """What a utility with a range gives or takes, and what that rests on."""
+    flow = f'{shown.flow(checked.cp)} {shown.flow_unit}'
+    size = f'a CP of {flow}' + (' in its largest segment' if len(checked.parts) > 1 else '')
+    heat = f'{shown.heat(checked.heat)} {shown.heat_unit}'
+    told = [f'{GIVES[checked.side]} {heat} with {size}', less_told(checked, shown), beside_told(checked, shown),
+            spare_told(checked, shown)]
+    return [clause for clause in told if clause]
 
 
 def less_told(checked: CheckedRange, shown: Shown) -> str:
@@ -66,6 +75,8 @@ def less_told(checked: CheckedRange, shown: Shown) -> str:
         less = f'with {shown.flow(checked.cp - 1)} {shown.flow_unit}'
     else:
         less = 'without it'
+    if checked.dearer is not None and checked.dearer < 0:
+        return f'{less} the cost is {shown.with_unit(-checked.dearer)} lower, since all are sized one after the other'
     if not checked.is_least:
         return f'{less} it is enough too'
     if checked.less_lacking:
@@ -77,7 +88,7 @@ def beside_told(checked: CheckedRange, shown: Shown) -> str:
     """What is needed beside it."""
     if not checked.lacking:
         return ''
-    return f'; {shown.heat(checked.lacking)} {shown.heat_unit} of another {checked.side.value} utility are needed ' \
+    return f'{shown.heat(checked.lacking)} {shown.heat_unit} of another {checked.side.value} utility are needed ' \
            'beside it'
 
 
@@ -87,9 +98,9 @@ def spare_told(checked: CheckedRange, shown: Shown) -> str:
         return ''
     heat = f'{shown.heat(checked.spare)} {shown.heat_unit}'
     if checked.side is Side.COLD:
-        return f'; {heat} of that have to come from a hot utility'
+        return f'{heat} of that have to come from a hot utility'
     finer = ': with a larger --scale units of CP are finer' if checked.spare < unit_heat(checked) else ''
-    return f'; {heat} of that are more than is needed, and go on to the cold side{finer}'
+    return f'{heat} of that are more than is needed, and go on to the cold side{finer}'
 
 
 def unit_heat(checked: CheckedRange) -> int:
@@ -125,8 +136,16 @@ def range_sheets(case: Case, ranges: Sequence[CheckedRange], cost: int | None = 
     """The table of the utilities with a range, and what is said of each; nothing where there is none."""
     if not ranges:
         return []
-    told = tuple((range_told(checked, Shown(case.basis)),) for checked in ranges)
+    shown = Shown(case.basis)
+    told = tuple((checked.utility.name, clause) for checked in ranges for clause in clauses(checked, shown))
     return [ranges_sheet(case, cost), Sheet('What that rests on', (), told)]
+
+
+def plant_sheets(case: Case, targets: Targets) -> list[Sheet]:
+    """The targets of the streams of a plant alone, and its pinches: a case with utilities with a range mostly has
+    none."""
+    sheets = targets_sheets(case, targets)
+    return [replace(sheet, title=f'{sheet.title} without the utilities with a range') for sheet in sheets]
 
 
 def heat_facts(case: Case) -> FactRow:

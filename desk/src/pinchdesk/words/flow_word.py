@@ -1,7 +1,7 @@
 """The word `flow`."""
 from __future__ import annotations
 
-from ..analysis.range_sizes import checked_ranges
+from ..analysis.range_checks import checked_ranges
 from ..errors import about
 from ..formats.shown import Shown
 from ..program.answers import Cut
