@@ -8,20 +8,25 @@ from fractions import Fraction
 from math import ceil, floor
 from pathlib import Path
 
+import numpy
 import pytest
 from conftest import example, pinchdesk
 from hypothesis import assume, given
 from hypothesis import strategies as some
+from looking import cut_off, lines_named, overlapping, pale, svg_texts
 
 from pinchdesk import Case, Pinch, Side, Stream, WordsError, print_case, read
 from pinchdesk.analysis.flue_gas import FlueGas, furnace
 from pinchdesk.analysis.grand_curve import GrandCurve
 from pinchdesk.analysis.heat_pump import HeatPump, pumped_heat
+from pinchdesk.analysis.utility_targets import UtilityTargets
 from pinchdesk.errors import Status
+from pinchdesk.figures import beside_curve_figure
 from pinchdesk.formats.shown import Shown
 from pinchdesk.program.answers import Point
 from pinchdesk.report.sheet import Cell
-from pinchdesk.words.utilities_word import UtilitiesOptions, utilities
+from pinchdesk.words.draw_word import beside_curve
+from pinchdesk.words.utilities_word import UtilitiesOptions, found_utilities, utilities
 from pinchdesk.words.word import Answer, Files, TextFile
 
 FOUR = example('four-stream.csv')
@@ -34,6 +39,8 @@ cooler,CW,250,0,1000000000000,1,
 cooler,R1,-200,0,1000000000000,2,
 cooler,R2,-600,0,1000000000000,5,
 """
+# Nothing takes what is too cold for R1.
+SHORT = COLD.replace(b'R2,-600,0,1000000000000', b'R2,-600,0,0')
 
 
 def files_of(content: bytes) -> Files:
@@ -57,7 +64,7 @@ def refused(content: bytes, **said: str) -> str:
 def test_without_options_there_is_the_curve() -> None:
     targets, curve = answered(FOUR).sheets
     assert [row[1] for row in targets.rows] == [20, 60, 85]
-    assert curve.rows == ((165, 20), (145, 80), (140, Decimal('82.5')), (85, 0), (55, 75), (25, 60))
+    assert [f'{row[0]} {row[1]}' for row in curve.rows] == ['165 20', '145 80', '140 82.5', '85 0', '55 75', '25 60']
     assert curve.headings == ('shifted °C', 'kW')
 
 
@@ -130,7 +137,7 @@ def test_turbines_by_the_factor_of_carnot_by_hand() -> None:
     """From 170 to 91 °C the factor is 79/443.15; 0.7 of it, 0.12479, of what the steam gives: 1.5 kW are left of
     1.7139 kW."""
     sheet = answered(example('two-steam-levels.csv'), exergetic='0.7').sheets[2]
-    assert sheet.rows == (('HP', 170, Decimal('18.5'), 0), ('LP', 91, Decimal('1.5'), Decimal('0.214')))
+    assert [list(map(str, row)) for row in sheet.rows] == [['HP', '170', '18.5', '0'], ['LP', '91', '1.5', '0.214']]
     alone = answered(example('two-steam-levels.csv'), exergetic='1', mains='LP', inlet='170')
     ideal = Fraction(3, 2) * (Fraction('443.15') / Fraction('364.15') - 1)
     assert abs(Fraction(str(alone.sheets[2].rows[0][3])) - ideal) < Fraction(1, 1000)
@@ -217,9 +224,8 @@ def test_without_a_pinch_there_is_nothing_to_pump_or_burn() -> None:
 
 
 def test_without_a_heat_flow_there_is_its_cut() -> None:
-    case = COLD.replace(b'R2,-600,0,1000000000000', b'R2,-600,0,0')
-    assert answered(case, refrigeration='0.6').status == Status.NO
-    assert answered(case).status == Status.GOOD
+    assert answered(SHORT, refrigeration='0.6').status == Status.NO
+    assert answered(SHORT).status == Status.GOOD
 
 
 def test_the_command_writes_it_and_many_have_its_facts(tmp_path: Path) -> None:
@@ -242,8 +248,41 @@ def test_a_notebook_has_exact_numbers() -> None:
     assert answer.refrigeration_kw is None and 'Heat pump' in str(answer)
     cold = read(COLD, 'cold.csv').utilities(refrigeration='60 %', exergetic=1, inlet=200)
     assert cold.refrigeration_kw and cold.turbines_kw and cold.fuel_kw is None and cold.saved_hot_kw is None
-    short = read(COLD.replace(b'R2,-600,0,1000000000000', b'R2,-600,0,0'), 'short.csv').utilities(refrigeration=1)
+    short = read(SHORT, 'short.csv').utilities(refrigeration=1)
     assert short.found is None and 'No heat flow' in str(short)
+
+
+PICTURES = [(FOUR, {'flame': '1000', 'stack': '80', 'pump_from': '65', 'pump_to': '100', 'pump_efficiency': '0.5'}),
+            (example('two-reactors.csv'), {'flame': '260', 'stack': '150', 'pump_from': '160', 'pump_to': '200',
+                                           'pump_efficiency': '0.5'})]
+
+
+@pytest.mark.parametrize('content, said', PICTURES, ids=['pump', 'no-pump'])
+def test_the_picture_can_be_read_and_its_line_touches_the_curve(content: bytes, said: dict[str, str]) -> None:
+    found = found_utilities(files_of(content), UtilitiesOptions(**said))
+    assert isinstance(found, UtilityTargets) and found.furnace
+    figure = beside_curve_figure(found)
+    assert overlapping(figure) == [] and cut_off(figure) == [] and pale(figure) == []
+    texts = ' '.join(svg_texts(figure))
+    assert found.shown.heat(found.furnace.fuel) in texts and found.shown.heat(found.furnace.loss) in texts
+    axes = figure.axes[0]
+    flue = lines_named(axes, 'flue')[0]
+    heats, levels = zip(*reversed(lines_named(axes, 'curve')[0]))
+    apart = [float(numpy.interp(level, levels, heats)) - heat for heat, level in flue if level <= levels[-1]]
+    assert min(apart) > -1e-6 and min(apart) < 0.02 * heats[-1]
+    bars = lines_named(axes, 'utility')
+    assert len(bars) == (2 if found.pumped and found.pumped.saves else 0)
+    assert all(bar[1][0] <= float(numpy.interp(bar[1][1], levels, heats)) + 1e-9 for bar in bars)
+    assert ('(the heat pump saves nothing)' in texts) == (not bars)
+
+
+def test_draw_and_a_notebook_have_the_picture() -> None:
+    asked = {'flame': '1000', 'stack': '80'}
+    drawn = beside_curve(files_of(FOUR), UtilitiesOptions(**asked)).content('svg')
+    assert isinstance(drawn, bytes) and b'1000 to 90 ' in drawn
+    assert read(FOUR, 'four.csv').utilities(flame=1000, stack=80).figure().as_file('svg') == drawn
+    with pytest.raises(WordsError, match='no picture of utilities'):
+        read(SHORT, 'short.csv').utilities(refrigeration=1).figure()
 
 
 @some.composite
@@ -281,7 +320,8 @@ def test_the_flue_gas_is_enough_and_less_is_not(case: Case, flame: int, stack: i
         found = furnace(curve, flue, Shown())
     except WordsError:
         return
-    needs = [(found.cp * (flame - share - max(corner.temperature, found.leaves - share)), curve.hot - corner.heat)
+    leaves = found.leaves - share
+    needs = [(found.cp * (flame - share - max(Fraction(corner.temperature), leaves)), curve.hot - corner.heat)
              for corner in curve.corners if corner.temperature <= flame - share]
     assert all(gives >= needed for gives, needed in needs)
     assert found.leaves >= stack and found.fuel == curve.hot + found.loss
@@ -306,18 +346,16 @@ def test_the_program_agrees_how_much_can_be_taken_and_replaced(case: Case, shift
                 assert (kept[0] == kept[1]) == (load == most)
 
 
-heats = some.integers(0, 1000)
-
-
-@given(some.lists(some.tuples(some.integers(-500, 500), heats), min_size=2, max_size=6, unique_by=lambda pair: pair[0]),
-       some.integers(-600, 600), some.integers(-600, 600), some.fractions(Fraction(1, 10), 1))
-def test_a_heat_pump_and_its_mirror(pairs: list[tuple[int, int]], low: int, high: int, part: Fraction) -> None:
+@given(some.dictionaries(some.integers(-500, 500), some.integers(0, 1000), min_size=2, max_size=6),
+       some.integers(-600, 600), some.integers(-600, 600), some.integers(10, 100))
+def test_a_heat_pump_and_its_mirror(heats: dict[int, int], low: int, high: int, percent: int) -> None:
     """No more is saved than the curve leaves, and the curve upside down takes where the other one gives."""
-    curve = GrandCurve(tuple(Point(heat, level) for level, heat in sorted(pairs, reverse=True)))
+    curve = GrandCurve(tuple(Point(heat, level) for level, heat in sorted(heats.items(), reverse=True)))
     mirrored = GrandCurve(tuple(Point(corner.heat, -corner.temperature) for corner in reversed(curve.corners)))
     assert curve.taken_below(Fraction(low)) == mirrored.replaced_above(Fraction(-low))
+    pump = HeatPump(Fraction(low), Fraction(high), Fraction(percent, 100), Fraction(0))
     try:
-        found = pumped_heat(curve, HeatPump(Fraction(low), Fraction(high), part, Fraction(0)), Shown())
+        found = pumped_heat(curve, pump, Shown())
     except WordsError:
         return
     assert found.given <= found.replaced and found.taken <= found.available

@@ -5,6 +5,7 @@ alone. Each name is loaded when it is first asked for: the layout of the grid di
 from typing import TYPE_CHECKING, Any
 
 if TYPE_CHECKING:
+    from .beside_curve import beside_curve_figure
     from .curves import balanced_figure, composite_figure, curves_figure, grand_figure
     from .exchangers_against_cost import tradeoff_figure
     from .grid.diagram import MOST, grid_figure
@@ -16,13 +17,14 @@ if TYPE_CHECKING:
 
 PLACES = {
     'FORMS': 'style', 'MOST': 'grid.diagram', 'ShownFigure': 'shown_figure', 'balanced_figure': 'curves',
-    'composite_figure': 'curves', 'curves_figure': 'curves', 'grand_figure': 'curves', 'grid_figure': 'grid.diagram',
-    'prices_figure': 'price_spans', 'readable_width': 'style', 'rendered': 'style', 'site_figure': 'site_profiles',
-    'sweep_figure': 'sweep_curves', 'tradeoff_figure': 'exchangers_against_cost',
+    'beside_curve_figure': 'beside_curve', 'composite_figure': 'curves', 'curves_figure': 'curves',
+    'grand_figure': 'curves', 'grid_figure': 'grid.diagram', 'prices_figure': 'price_spans', 'readable_width': 'style',
+    'rendered': 'style', 'site_figure': 'site_profiles', 'sweep_figure': 'sweep_curves',
+    'tradeoff_figure': 'exchangers_against_cost',
 }
-__all__ = ['FORMS', 'MOST', 'ShownFigure', 'balanced_figure', 'composite_figure', 'curves_figure', 'grand_figure',
-           'grid_figure', 'prices_figure', 'readable_width', 'rendered', 'site_figure', 'sweep_figure',
-           'tradeoff_figure']
+__all__ = ['FORMS', 'MOST', 'ShownFigure', 'balanced_figure', 'beside_curve_figure', 'composite_figure',
+           'curves_figure', 'grand_figure', 'grid_figure', 'prices_figure', 'readable_width', 'rendered', 'site_figure',
+           'sweep_figure', 'tradeoff_figure']
 
 
 def __getattr__(name: str) -> Any:

@@ -5,14 +5,19 @@ from __future__ import annotations
 from dataclasses import dataclass, field
 from decimal import Decimal
 from fractions import Fraction
+from typing import TYPE_CHECKING
 
 from ..analysis.utility_targets import UtilityTargets
+from ..errors import WordsError
 from ..formats.case import Case
 from ..formats.shown import Shown
 from ..program.answers import Cut
 from ..report.answer_sheets import flow_sheets
 from ..report.utility_sheets import utilities_notes, utilities_sheets
 from .plant_answer import PlantAnswer, celsius, kilowatts
+
+if TYPE_CHECKING:
+    from ..figures import ShownFigure
 
 
 @dataclass(frozen=True)
@@ -47,6 +52,13 @@ class PlantUtilities(PlantAnswer):
     refrigeration: Fraction | None = None
     turbines: Fraction | None = None
     found: UtilityTargets | None = field(default=None, repr=False)
+
+    def figure(self) -> ShownFigure:
+        """The picture of the curve with the flue gas and the heat pump; `WordsError` where there is no heat flow."""
+        from ..figures import ShownFigure, beside_curve_figure
+        if self.found is None:
+            raise WordsError('there is no heat flow, so there is no picture of utilities')
+        return ShownFigure(beside_curve_figure(self.found), self.notes)
 
     @property
     def fuel_kw(self) -> Decimal | None:

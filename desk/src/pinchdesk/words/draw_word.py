@@ -20,6 +20,7 @@ from .prices_word import STUDY, answered_study
 from .shared import (CASE, FILM, NETWORK, RANGE, SHOWN_IN, SITE, USUAL_WORKERS, WORKERS, CaseShown, SweepOptions,
                      completed_case, ended, rounding_told, told_of)
 from .supertarget_word import SupertargetOptions, found_over_difference
+from .utilities_word import BESIDE_CURVE, UtilitiesOptions, found_utilities
 from .word import Answer, Files, NoOptions, Option, Role, Word, WordGroup, feasibility
 
 if TYPE_CHECKING:
@@ -113,6 +114,13 @@ def over_difference(files: Files, options: SweepOptions, tell: Telling = nobody)
     return replace(picture(supertarget_figure(found)), notes=told)
 
 
+def beside_curve(files: Files, options: UtilitiesOptions, tell: Telling = nobody) -> Answer:
+    from ..figures import beside_curve_figure
+    found = found_utilities(files, options)
+    assert not isinstance(found, Cut), 'a flue gas and a heat pump need no heat flow'
+    return picture(beside_curve_figure(found))
+
+
 def sweep(files: Files, options: SweepOptions, tell: Telling = nobody) -> Answer:
     file = files.one('case')
     asked = asked_range(options.first, options.last, options.step, options.workers, units_of(file.content))
@@ -145,6 +153,9 @@ PARTS = (
          'examples/three-levels.csv -o balanced.svg', (CASE,), CaseShown, curves_by('balanced_figure'), (SHOWN_IN,)),
     part('grand', 'the grand composite curve, and the utilities on it',
          'examples/three-levels.csv -o grand.svg', (CASE,), CaseShown, curves_by('grand_figure'), (SHOWN_IN,)),
+    part('utilities', 'the grand composite curve with a flue gas and a heat pump',
+         'examples/four-stream.csv --flame 1000 --stack 80 -o flue.svg', (CASE,), UtilitiesOptions, beside_curve,
+         (*BESIDE_CURVE, SHOWN_IN)),
     part('grid', 'the grid diagram of a network', 'examples/tc3.csv examples/tc3-network.txt -o grid.svg',
          (CASE, NETWORK), GridOptions, grid, (MOST, SHOWN_IN)),
     part('site', 'the profiles of a site', 'examples/three-plants.csv -o site.svg', (SITE,), NoOptions, site),

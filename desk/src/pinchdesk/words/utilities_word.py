@@ -8,7 +8,7 @@ from fractions import Fraction
 from ..analysis.flue_gas import FlueGas
 from ..analysis.heat_pump import HeatPump
 from ..analysis.steam_turbine import Inlet, Turbines
-from ..analysis.utility_targets import UtilitiesAsked, utility_targets
+from ..analysis.utility_targets import UtilitiesAsked, UtilityTargets, utility_targets
 from ..errors import WordsError, about
 from ..formats.amounts import shortened
 from ..formats.case import Case
@@ -26,7 +26,7 @@ from .word import Answer, Files, Option, Word, feasibility
 
 AMBIENT = '25 °C'
 PRESSURE = re.compile(r'(?P<pressure>[0-9.,]+\s*[A-Za-z]+\s*(?:\([ag]\))?)\s+(?P<temperature>\S.*)')
-DECLARED = (
+BESIDE_CURVE = (
     Option('flame', 'a flue gas with this theoretical flame temperature, in °C or with its unit', ('--flame',),
            metavar='T'),
     Option('stack', 'the temperature below which the flue gas must not be cooled', ('--stack',), metavar='T'),
@@ -36,7 +36,9 @@ DECLARED = (
     Option('pump_from', 'a heat pump that evaporates at this temperature', ('--pump-from',), metavar='T'),
     Option('pump_to', 'and condenses at this one', ('--pump-to',), metavar='T'),
     Option('pump_efficiency', 'the part of the performance by Carnot that it reaches, as 0.5', ('--pump-efficiency',),
-           metavar='E'),
+           metavar='E'))
+DECLARED = (
+    *BESIDE_CURVE,
     Option('refrigeration', 'the work of the cold utilities below the surroundings, by Carnot with this efficiency',
            ('--refrigeration',), metavar='E'),
     Option('isentropic', 'the work of steam turbines with this isentropic efficiency, by steam tables',
@@ -127,15 +129,18 @@ def inlet_said(text: str, units: CaseUnits) -> Inlet:
     return Inlet(temperature_said(match['temperature'], '--inlet', units), pressure)
 
 
-def utilities(files: Files, options: UtilitiesOptions = UtilitiesOptions(), tell: Telling = nobody) -> Answer:
-    file = files.one('case')
+def found_utilities(files: Files, options: UtilitiesOptions) -> UtilityTargets | Cut:
+    """What is asked of the case of the files."""
+    file, pinch = files.one('case'), Pinch()
     with about(case=file.name):
-        pinch = Pinch()
         pinch.targets(file.content)
-        case = completed_case(file.content)
-        found = utility_targets(file.content, options.asked(case), pinch)
+        return utility_targets(file.content, options.asked(completed_case(file.content)), pinch)
+
+
+def utilities(files: Files, options: UtilitiesOptions = UtilitiesOptions(), tell: Telling = nobody) -> Answer:
+    found = found_utilities(files, options)
     if isinstance(found, Cut):
-        table = cut_table(found, Shown(case.basis))
+        table = cut_table(found, Shown(completed_case(files.one('case').content).basis))
         return Answer((table.sheet(),), facts=table.rows, status=feasibility(False))
     return Answer(tuple(utilities_sheets(found)), facts=(utilities_facts(found),), headline=pump_told(found))
 
