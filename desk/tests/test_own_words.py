@@ -14,7 +14,8 @@ CALLS = ('cost reactors-cost.csv', 'cost reactors-cost.csv reactors-cost-network
          'supertarget reactors-cost.csv 4 20 8', 'targets tc3.csv', 'flow tc3.csv', 'table tc3.csv tc3-network.txt',
          'units tc3.csv tc3-network.txt', 'rest four-stream.csv four-stream-begun.txt',
          'prices two-steam-levels.csv steam-prices.csv', 'sweep tc3.csv 0 20 10',
-         'audit reactors-cost.csv reactors-cost-network.txt', 'whatif two-steam-levels.csv')
+         'audit reactors-cost.csv reactors-cost-network.txt', 'whatif two-steam-levels.csv',
+         'utilities three-levels.csv --exergetic 0.7 --refrigeration 0.6 --ambient 60C --flame 900C --stack 90C')
 FEW = ('cost reactors-cost.csv', 'flow tc3.csv', 'rest four-stream.csv four-stream-begun.txt')
 # What is in units of its own whatever the case has: coefficients, areas, and what a kelvin more would save.
 FIXED = re.compile(r'kW/m²K|1 K more|price times W|per W')
