@@ -113,8 +113,19 @@ def test_a_heat_pump_that_does_not_cross_the_pinch_saves_nothing(low: str, high:
     answer = answered(FOUR, pump_from=low, pump_to=high, pump_efficiency='60 %')
     facts = {fact.name: fact.value for fact in answer.facts[0]}
     assert facts['saved hot utility, estimate'] == facts['saved cold utility, estimate'] == 0
-    assert answer.headline == 'the heat pump does not work across the pinch at 85 °C shifted, so it saves nothing'
+    assert answer.headline == 'the heat pump does not work across the pinch, from below 85 °C to above 85 °C ' \
+                              'shifted, so it saves nothing'
     assert answer.headline in str(answer.content('text'))
+
+
+def test_past_what_is_no_pinch_of_the_program_no_heat_flows_either() -> None:
+    """What boils at the hottest end takes all the heat: the program calls only 90 °C a pinch, and between both there
+    is nothing to replace."""
+    case = b'contribution,,0,,,,\ncold,boiler,1500,1500,0,5000,\nhot,H,900,400,100,,\n'
+    answer = answered(case, pump_from='60', pump_to='120', pump_efficiency='0.5')
+    assert answer.headline.endswith('from below 90 °C to above 150 °C shifted, so it saves nothing')
+    assert facts_of(case, pump_from='60', pump_to='150', pump_efficiency='0.5')['saved hot utility, estimate'] == 5
+    assert facts_of(case, flame='400', stack='100')['flue gas leaves at'] == 150
 
 
 def test_refrigeration_by_hand() -> None:

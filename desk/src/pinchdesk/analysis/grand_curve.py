@@ -27,9 +27,15 @@ class GrandCurve:
 
     @property
     def zero(self) -> int:
-        """The highest temperature past which no heat flows, the highest pinch; the coldest where heat flows past
-        all."""
+        """The highest temperature past which no heat flows, the highest pinch or an end of the curve; the coldest
+        where heat flows past all."""
         return next((corner.temperature for corner in self.corners if corner.heat == 0), self.corners[-1].temperature)
+
+    @property
+    def last_zero(self) -> int:
+        """The lowest temperature past which no heat flows; the coldest where heat flows past all."""
+        return next((corner.temperature for corner in reversed(self.corners) if corner.heat == 0),
+                    self.corners[-1].temperature)
 
     def flows_in(self, temperature: Fraction) -> Fraction:
         """The heat that flows down to a temperature."""

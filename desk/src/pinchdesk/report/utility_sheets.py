@@ -122,8 +122,8 @@ def pump_told(found: UtilityTargets) -> str:
     pumped = found.pumped
     if pumped is None or pumped.saves:
         return ''
-    told = ' and '.join(found.shown.with_its_unit(pinch) for pinch in found.targets.pinches)
-    return f'the heat pump does not work across the pinch at {told} shifted, so it saves nothing'
+    high, low = (found.shown.with_its_unit(zero) for zero in (found.curve.zero, found.curve.last_zero))
+    return f'the heat pump does not work across the pinch, from below {low} to above {high} shifted, so it saves nothing'
 
 
 def utilities_notes(found: UtilityTargets) -> Iterator[str]:
