@@ -26,6 +26,7 @@ from pinchdesk.formats.shown import Shown
 from pinchdesk.program.answers import Point
 from pinchdesk.report.sheet import Cell
 from pinchdesk.words.draw_word import beside_curve
+from pinchdesk.words.page_word import PageOptions, page
 from pinchdesk.words.utilities_word import UtilitiesOptions, found_utilities, utilities
 from pinchdesk.words.word import Answer, Files, TextFile
 
@@ -285,6 +286,16 @@ def test_the_picture_can_be_read_and_its_line_touches_the_curve(content: bytes, 
     assert len(bars) == (2 if found.pumped and found.pumped.saves else 0)
     assert all(bar[1][0] <= float(numpy.interp(bar[1][1], levels, heats)) + 1e-9 for bar in bars)
     assert ('(the heat pump saves nothing)' in texts) == (not bars)
+
+
+@pytest.mark.usefixtures('without_curves')
+def test_the_page_has_what_was_asked_and_how_it_is_made_again() -> None:
+    asked = {'flame': '1000', 'stack': '80', 'flue_contribution': '5', 'refrigeration': '0.6'}
+    made = str(page(files_of(COLD), PageOptions(**asked)).content('html'))
+    assert 'Utilities beside the grand composite curve' in made and 'furnace efficiency' in made
+    assert 'Refrigeration below 25 °C' in made and 'alt="Grand composite curve with what was asked"' in made
+    assert '--flame 1000 --stack 80 --flue-contribution 5 --refrigeration 0.6' in made
+    assert page(files_of(SHORT), PageOptions(refrigeration='0.6')).status == Status.NO
 
 
 def test_draw_and_a_notebook_have_the_picture() -> None:

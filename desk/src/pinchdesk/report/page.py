@@ -18,6 +18,7 @@ from ..analysis.follow import Followed, PinchPoint, follow, pinches_of
 from ..analysis.joined import placed_count
 from ..analysis.range_checks import checked_ranges, without_ranges
 from ..analysis.unfinished import unfinished_told
+from ..analysis.utility_targets import UtilityTargets
 from ..errors import Status, WordsError, about
 from ..formats.case import ANY_HEAT, Case, Side, completed, read_case
 from ..formats.network import read_network
@@ -32,6 +33,7 @@ from .exchangers import exchangers_sheet, flow_of, mixes_sheets, segments_of, st
 from .page_head import PageHead, digests_sheet, head_sheet, made_again
 from .range_sheets import plant_sheets, range_sheets
 from .sheet import Cell, Sheet
+from .utility_sheets import asked_sheets
 
 if TYPE_CHECKING:
     from matplotlib.figure import Figure
@@ -174,6 +176,14 @@ def curves_of(answered: Answered) -> list[Picture]:
             for name, drawing in chosen]
 
 
+def beside_curve(found: UtilityTargets | None) -> Picture | None:
+    """The picture of a flue gas and a heat pump, where one was asked for."""
+    if found is None or not found.furnace and not found.pumped:
+        return None
+    from ..figures import beside_curve_figure
+    return Picture('Grand composite curve with what was asked', *imaged(beside_curve_figure(found)))
+
+
 def grid_of(name: str, followed: Followed, pinches: tuple[PinchPoint, ...],
             verdict: Verdict) -> tuple[Picture | None, str]:
     """The grid diagram, or why there is none."""
@@ -268,7 +278,8 @@ def compared(networks: Sequence[Reviewed], shown: Shown) -> Sheet:
 @dataclass(frozen=True)
 class Review:
     """A case and its networks, answered and judged, as the page has them, and who did it; `table` is that of the case,
-    where it is given, and `understood` how it was; `ranges` is about utilities with a range."""
+    where it is given, and `understood` how it was; `ranges` is about utilities with a range, `utilities` what was
+    asked of them."""
 
     case: Given
     answered: Answered
@@ -277,6 +288,7 @@ class Review:
     table: Given | None = None
     understood: Sheet | None = None
     ranges: tuple[Sheet, ...] = ()
+    utilities: UtilityTargets | None = None
 
     @property
     def ending(self) -> tuple[Status, str]:
@@ -310,7 +322,8 @@ def page_of(review: Review, unfolded: bool = False, head: PageHead = PageHead())
         'title': head.titled(review.case.name), 'head': head_sheet(head, answered.case),
         'again': made_again(head, [(what, file.name) for what, file in files]),
         'digests': digests_sheet(review.digests, [(what, file.name, file.content) for what, file in files]),
-        'understood': review.understood,
+        'understood': review.understood, 'utilities': list(asked_sheets(review.utilities)) if review.utilities else [],
+        'beside': beside_curve(review.utilities),
     }
     page: str = template().render(values)
     return page

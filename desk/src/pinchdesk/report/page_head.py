@@ -39,7 +39,8 @@ class PageHead:
     def words(self) -> list[str]:
         """The options of the command that say the same, the date too."""
         said = {field.name: getattr(self, field.name) for field in fields(self)} | {'date': self.dated}
-        return [word for name, text in said.items() if text for word in (f'--{name}', printable(text))]
+        return [word for name, text in said.items() if text
+                for word in (f'--{name.replace("_", "-")}', printable(text))]
 
 
 def head_sheet(head: PageHead, case: Case) -> Sheet:

@@ -123,7 +123,8 @@ def pump_told(found: UtilityTargets) -> str:
     if pumped is None or pumped.saves:
         return ''
     high, low = (found.shown.with_its_unit(zero) for zero in (found.curve.zero, found.curve.last_zero))
-    return f'the heat pump does not work across the pinch, from below {low} to above {high} shifted, so it saves nothing'
+    return f'the heat pump does not work across the pinch, from below {low} to above {high} shifted, so it saves ' \
+           'nothing'
 
 
 def utilities_notes(found: UtilityTargets) -> Iterator[str]:
@@ -137,12 +138,18 @@ def utilities_notes(found: UtilityTargets) -> Iterator[str]:
 
 
 def utilities_sheets(found: UtilityTargets) -> Iterator[Sheet]:
-    """The targets and the curve, then what was asked, a table each."""
-    shown = found.shown
+    """The targets and the curve, then what was asked."""
     yield lines_sheet('Targets', (*targets_facts(found.case, found.targets), *ambient_facts(found)))
     yield curve_sheet(found)
+    yield from asked_sheets(found)
+
+
+def asked_sheets(found: UtilityTargets) -> Iterator[Sheet]:
+    """What was asked, a table each, with notes."""
+    shown = found.shown
     if found.furnace:
-        yield lines_sheet('Flue gas', furnace_facts(found.furnace, shown))
+        yield lines_sheet(f'Flue gas, ambient {shown.with_its_unit(found.asked.ambient)}',
+                          furnace_facts(found.furnace, shown))
     if found.pumped:
         yield lines_sheet('Heat pump', pump_facts(found.pumped, shown))
     if found.refrigeration:

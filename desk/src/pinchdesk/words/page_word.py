@@ -7,6 +7,7 @@ from dataclasses import dataclass, fields, replace
 from pathlib import PurePath
 
 from ..formats.case import read_case
+from ..program.answers import Cut
 from ..program.run import Pinch
 from ..report.page import Given, page_of, review_of
 from ..report.page_head import PageHead
@@ -16,6 +17,7 @@ from ..text import printable
 from .forms import PAGE
 from .shared import CASE, DECIMAL, SEPARATOR, SHEET, SHOWN_IN, rounding_told
 from .table_of_case import ReadingOptions, understood_of
+from .utilities_word import ASKED, UtilitiesOptions, found_utilities
 from .word import Answer, Files, Option, Role, TextFile, Word
 
 NETWORKS_BESIDE = Role('network', 'network texts, shown side by side', several=True, needed=False)
@@ -28,8 +30,9 @@ DECLARED = tuple(Option(field.name, SAID[field.name], (f'--{field.name}',), meta
 
 
 @dataclass(frozen=True)
-class PageOptions(PageHead, ReadingOptions):
-    """What is said at the head of the page, and how the table beside the case is to be read."""
+class PageOptions(PageHead, ReadingOptions, UtilitiesOptions):
+    """What is said at the head of the page, how the table beside the case is to be read, and what is asked of
+    utilities."""
 
 
 def shown_files(files: Sequence[TextFile]) -> list[Given]:
@@ -46,6 +49,8 @@ def page(files: Files, options: PageOptions = PageOptions(), tell: Telling = nob
     if table:
         understood = understood_of(table, read_case(case.content), options)
         review = replace(review, table=shown_files([table])[0], understood=understood)
+    found = found_utilities(files, options) if options.is_asked else None
+    review = replace(review, utilities=None if isinstance(found, Cut) else found)
     status, no = review.ending
     return Answer(in_form=lambda form: as_pdf(page_of(review, True, options)) if form == 'pdf'
                   else page_of(review, head=options),
@@ -55,4 +60,4 @@ def page(files: Files, options: PageOptions = PageOptions(), tell: Telling = nob
 PAGE_OF_REVIEW = Word('page', 'all of a case and its networks on one page for the reviewer, .html or .pdf',
                       'pinchdesk page examples/tc3.csv examples/tc3-network.txt -o page.html',
                       (CASE, NETWORKS_BESIDE, TABLE_BESIDE), PageOptions, page,
-                      (*DECLARED, SHEET, SEPARATOR, DECIMAL, SHOWN_IN), PAGE, to_file=True, ending='html')
+                      (*DECLARED, SHEET, SEPARATOR, DECIMAL, *ASKED, SHOWN_IN), PAGE, to_file=True, ending='html')

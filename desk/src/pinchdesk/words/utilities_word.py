@@ -2,7 +2,7 @@
 from __future__ import annotations
 
 import re
-from dataclasses import dataclass
+from dataclasses import dataclass, fields
 from fractions import Fraction
 
 from ..analysis.flue_gas import FlueGas
@@ -37,7 +37,7 @@ BESIDE_CURVE = (
     Option('pump_to', 'and condenses at this one', ('--pump-to',), metavar='T'),
     Option('pump_efficiency', 'the part of the performance by Carnot that it reaches, as 0.5', ('--pump-efficiency',),
            metavar='E'))
-DECLARED = (
+ASKED = (
     *BESIDE_CURVE,
     Option('refrigeration', 'the work of the cold utilities below the surroundings, by Carnot with this efficiency',
            ('--refrigeration',), metavar='E'),
@@ -47,8 +47,7 @@ DECLARED = (
            one_of='turbines'),
     Option('mains', 'which heaters are steam mains (all unless given)', ('--mains',), metavar='HP,LP'),
     Option('inlet', 'the steam before the turbines, as "100 bar 500 °C", or its temperature where it is saturated '
-           '(that of the hottest main unless given)', ('--inlet',), metavar='STEAM'),
-    SHOWN_IN)
+           '(that of the hottest main unless given)', ('--inlet',), metavar='STEAM'))
 
 
 @dataclass(frozen=True)
@@ -67,6 +66,11 @@ class UtilitiesOptions(CaseShown):
     exergetic: str | None = None
     mains: str | None = None
     inlet: str | None = None
+
+    @property
+    def is_asked(self) -> bool:
+        """Whether anything is."""
+        return any(getattr(self, field.name) is not None for field in fields(UtilitiesOptions) if field.name != 'units')
 
     def asked(self, case: Case) -> UtilitiesAsked:
         """What is asked of a case; `WordsError` where a number is none, or one is missing that belongs to others."""
@@ -147,4 +151,4 @@ def utilities(files: Files, options: UtilitiesOptions = UtilitiesOptions(), tell
 
 UTILITIES = Word('utilities', 'flue gas, heat pump, refrigeration and steam turbines beside the grand composite curve',
                  'pinchdesk utilities examples/four-stream.csv --flame 1800 --stack 160', (CASE,), UtilitiesOptions,
-                 utilities, DECLARED)
+                 utilities, (*ASKED, SHOWN_IN))
