@@ -299,10 +299,10 @@ def test_the_page_has_what_was_asked_and_how_it_is_made_again() -> None:
 
 
 def test_draw_and_a_notebook_have_the_picture() -> None:
-    asked = {'flame': '1000', 'stack': '80'}
-    drawn = beside_curve(files_of(FOUR), UtilitiesOptions(**asked)).content('svg')
+    drawn = beside_curve(files_of(FOUR), UtilitiesOptions(flame='1000', stack='80')).content('svg')
     assert isinstance(drawn, bytes) and b'1000 to 90 ' in drawn
-    assert read(FOUR, 'four.csv').utilities(flame=1000, stack=80).figure().as_file('svg') == drawn
+    shown = read(FOUR, 'four.csv').utilities(flame=1000, stack=80).figure()
+    assert any('1000 to 90 ' in str(line.get_label()) for line in shown.figure.axes[0].get_lines())
     with pytest.raises(WordsError, match='no picture of utilities'):
         read(SHORT, 'short.csv').utilities(refrigeration=1).figure()
 
