@@ -91,7 +91,7 @@ def test_a_flue_gas_may_touch_the_curve_away_from_the_pinch() -> None:
 
 
 def test_a_published_furnace() -> None:
-    """Smith (2005), section 16.6, from memory: a flame of 1800 °C, a dew point of 160 °C that the pinch of the process
+    """Smith (2005), chapter 16, from memory: a flame of 1800 °C, a dew point of 160 °C that the pinch of the process
     keeps the flue gas above, 25 K for the flue gas, 10 °C outside: 8.24 MW of fuel, 0.74 MW lost, 91 %."""
     facts = facts_of(example('two-reactors.csv'), flame='1800', stack='160', ambient='10', flue_contribution='25')
     assert (facts['fuel'], facts['stack loss']) == (Decimal('8236.196'), Decimal('736.196'))

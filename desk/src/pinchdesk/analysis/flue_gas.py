@@ -1,4 +1,4 @@
-"""The flue gas of a furnace against the grand composite curve (Linnhoff and others 1982; Smith 2005, section 16.6):
+"""The flue gas of a furnace against the grand composite curve (Linnhoff and others 1982; Smith 2005, chapter 16):
 the least CP whose straight line touches the curve, the fuel, and what leaves by the stack. All of it is exact.
 
 From the theoretical flame temperature on the flue gas gives the whole hot target. Its shifted line lies nowhere below
