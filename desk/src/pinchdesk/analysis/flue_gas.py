@@ -1,10 +1,10 @@
 """The flue gas of a furnace against the grand composite curve (Linnhoff and others 1982; Smith 2005, chapter 16):
 the least CP whose straight line touches the curve, the fuel, and what leaves by the stack. All of it is exact.
 
-From the theoretical flame temperature on the flue gas gives the whole hot target. Its shifted line lies nowhere below
-what the process still needs, `hot target - curve`, so that its CP is the greatest of these needs, each over the
-degrees from the flame down to it; at one corner of the curve, or at the stack, it is just enough. It leaves where it
-has given the hot target."""
+From the theoretical flame temperature down it gives the whole hot target. Down to each shifted temperature it has to
+have given what the process needs above it, `hot target - curve`, so its CP is the greatest of these needs, each over
+the degrees from the flame down to there; at one corner of the curve, or at the stack, it gives just that. It leaves
+where it has given the hot target."""
 from __future__ import annotations
 
 from collections.abc import Iterator
