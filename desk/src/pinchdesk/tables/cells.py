@@ -95,6 +95,16 @@ def decimal_mark(table: Table, cells: Iterable[tuple[int, int, Cell]], told: str
     return first[0].value if first else '.'
 
 
+def settled_mark(cells: Iterable[tuple[int, int, Cell]], told: str | None) -> str | None:
+    """The decimal mark that cells say, or that is told; None where none says one."""
+    for _, _, cell in cells:
+        with suppress(NoNumber):
+            says = numeral_of(cell.text).says
+            if told is None and says in (Says.POINT, Says.COMMA):
+                return says.value
+    return told
+
+
 @dataclass
 class CellReader:
     """Reads the cells of a table whose decimal mark and units are known. Of a kind of numbers `taken` has where there

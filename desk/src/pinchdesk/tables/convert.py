@@ -14,9 +14,10 @@ from ..program.causes import CAUSES
 from ..program.run import Pinch
 from . import other_sheets
 from .blocks import Blocks, blocks_of
-from .cells import CellReader, Told, decimal_mark
+from .cells import CellReader, Told, decimal_mark, settled_mark
 from .conversion import Converted as Converted
 from .conversion import Wanted as Wanted
+from .costs_block import cost_rows_of, with_costs
 from .doubts import as_case, doubts_of
 from .heating_curve import with_curves
 from .making import Maker
@@ -46,7 +47,7 @@ def case_of_table(content: bytes, name: str, wanted: Wanted) -> Converted:
     if is_case(content) or any(is_case(rows) for table in tables for rows in as_case(table)):
         raise Refused(3, '', 'a case already', 'this is a case already, in tenths of °C, 10 W/K and W: it needs no '
                       'conversion, but commas between its fields. If it is a table in °C, give it headings')
-    tables = upright(tables)
+    tables = upright(tuple(with_costs(table, content) for table in tables))
     best = max(headings(table) for table in tables)
     if best > 1:
         tables = tuple(table for table in tables if headings(table) == best)
@@ -93,6 +94,7 @@ def converted(table: Table, wanted: Wanted) -> Converted:
         check_order(body.lines, mark, told)
     body, segmented = with_segments(body, reader, told)
     check_count(body.lines, table)
+    costs = cost_rows_of(table.costs, settled_mark(numbers_of(body.lines), wanted.decimal), told) if table.costs else ()
     names = fit_names([*(line.name() for line in body.lines if line.kind not in ('contribution', 'forbid')
                          and line.name()), *(stream.name for stream in segmented)])
     made = {segment for stream in segmented for segment in stream.segments}
@@ -101,7 +103,7 @@ def converted(table: Table, wanted: Wanted) -> Converted:
             told.notes.append(f'the name `{old}` becomes {new}')
     told.notes += other_sheets.told(table)
     entries = Entries(reader, told, names, wanted.scale, wanted.own_units, wanted.levels)
-    return Maker(told, reader, entries, blocks, wanted, segmented).made(body, names)
+    return Maker(told, reader, entries, blocks, wanted, segmented, costs).made(body, names)
 
 
 def with_layouts(body: Body, blocks: Blocks) -> Body:

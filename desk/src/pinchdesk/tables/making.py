@@ -32,7 +32,7 @@ class Maker:
     """Puts the lines of a table together to a case."""
 
     def __init__(self, told: Told, reader: CellReader, entries: Entries, blocks: Blocks, wanted: Wanted,
-                 segmented: Sequence[SegmentRows] = ()) -> None:
+                 segmented: Sequence[SegmentRows] = (), costs: Sequence[CostRow] = ()) -> None:
         self.told, self.reader, self.entries, self.blocks, self.wanted = told, reader, entries, blocks, wanted
         self.segmented = segmented
         self.prices = PriceReader(told, reader)
@@ -44,6 +44,7 @@ class Maker:
         self.forbids: list[tuple[int, Forbid]] = []
         self.coefficients: list[CostRow] = []
         self.segments_of_ranges = SegmentsOfRanges(told, entries, self.prices, segmented)
+        self.costs = costs
 
     def made(self, body: Body, names: dict[str, str]) -> Converted:
         for line in body.lines:
@@ -58,7 +59,7 @@ class Maker:
         utilities, basis = self.with_prices(share)
         own = {segment for stream in self.segmented for segment in stream.segments}
         changed = tuple((old, new) for old, new in names.items() if old != new and old not in own)
-        basis = replace(basis, scale=self.wanted.scale, names=changed, cost_rows=tuple(self.coefficients),
+        basis = replace(basis, scale=self.wanted.scale, names=changed, cost_rows=(*self.coefficients, *self.costs),
                         segments=fit_segments(self.segmented, names))
         streams = tuple(replace(stream, contribution=share if own is None else own)
                         for _, stream, own in (*self.streams, *self.segments_of_ranges.streams))

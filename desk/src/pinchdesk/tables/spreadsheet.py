@@ -86,7 +86,8 @@ class Table:
     that are not shown, each with the number of its sheet, `others` the sheets that are shown beside it. Of several
     sheets the rows of the second one are counted from `SHEET_ROWS` on, and so on; `more` has their names. Where it is
     `turned` its rows are the columns of the file. `inserted` are columns that the file has not, each with the number of
-    its sheet, whose cells stand in the column before; `doubts` what these leave open."""
+    its sheet, whose cells stand in the column before; `doubts` what these leave open. `costs` is what the file says of
+    areas and money (`costs_block`)."""
 
     sheet: str
     rows: tuple[TableRow, ...]
@@ -99,6 +100,7 @@ class Table:
     turned: bool = False
     inserted: frozenset[tuple[int, int]] = frozenset()
     doubts: tuple[Doubt, ...] = ()
+    costs: Table | None = None
 
     def sheet_of(self, row: int) -> str:
         """The sheet on which a row stands."""

@@ -5,9 +5,10 @@ from collections.abc import Iterator
 from dataclasses import dataclass
 
 from .conversion import Converted
+from .costs_block import lines_of
 from .headings import KINDS
 from .layouts import Layout
-from .spreadsheet import letters
+from .spreadsheet import Table, letters
 from .vocabulary import Heading
 
 MEANT = {Heading.SUPPLY: 'supply temperature', Heading.TARGET: 'target temperature', Heading.LOAD: 'duty',
@@ -39,7 +40,15 @@ def understood(converted: Converted) -> tuple[Understood, ...]:
     over = sorted(converted.body.over, key=lambda passed: (passed.row, -1 if passed.column is None else passed.column))
     found += [Understood(converted.table.place(passed.row, passed.column), passed.text, f'passed over: {passed.why}')
               for passed in over]
-    return tuple(found)
+    return (*found, *of_costs(converted.table.costs))
+
+
+def of_costs(costs: Table | None) -> Iterator[Understood]:
+    """The rows of areas and money; what of them is passed over stands among the notes."""
+    for line in lines_of(costs.rows) if costs else ():
+        if line.meaning and line.cells and costs:
+            yield Understood(costs.place(line.row.number), line.label, f'{line.meaning}, kept as a comment',
+                             line.unit)
 
 
 def columns_of(layout: Layout, converted: Converted) -> Iterator[Understood]:
