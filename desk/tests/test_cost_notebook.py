@@ -52,6 +52,7 @@ def test_without_a_cost_law_there_are_areas_and_a_note() -> None:
 def test_the_least_difference_of_least_cost(plant: Plant) -> None:
     found = plant.supertarget(4, 10, 2)
     assert abs(found.least_k - Decimal('6.41')) < Decimal('0.03') and near(found.annual_cost, '13777')
+    assert found.flat_k[0] == 4 and abs(found.flat_k[1] - 10) < Decimal('0.1')
     assert isinstance(found.figure().figure, Figure) and len(found.found.points) == 4
 
 

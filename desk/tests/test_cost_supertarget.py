@@ -30,7 +30,23 @@ def test_the_least_lies_between_two_points_and_is_marked(small: Supertarget) -> 
     least = small.least
     assert least.point.found and near(least.annual, '13777')
     assert abs(least.point.difference - Fraction('6.41')) < Fraction('0.02')
-    assert least.flat == (Fraction(4), Fraction(10))
+    for end, kelvin in zip(least.ends, ('3.8', '10.0')):
+        assert end.found and not end.open and abs(end.difference - Fraction(kelvin)) < Fraction('0.05')
+
+
+@pytest.mark.parametrize('step', [5, 10, 30])
+def test_the_range_within_one_per_cent_is_the_same_on_each_grid(step: int, small: Supertarget, pinch: Pinch) -> None:
+    """Between two answers uses are taken in proportion, which is exact where no utility changes its slope."""
+    least = supertarget(SMALL, 10, 100, step, pinch).least
+    for end, other in zip(least.ends, small.least.ends):
+        assert abs(end.difference - other.difference) < Fraction(1, 50)
+
+
+def test_a_range_that_goes_on_is_open(pinch: Pinch) -> None:
+    least = supertarget(SMALL, 25, 40, 5, pinch).least
+    assert [(end.difference, end.open, end.found) for end in least.ends] == [(5, True, False), (8, True, False)]
+    beside = supertarget(SMALL, 0, 40, 40, pinch).least
+    assert [(end.difference, end.open) for end in beside.ends] == [(8, True), (8, True)]
 
 
 def test_dearer_energy_wants_a_smaller_difference(small: Supertarget) -> None:

@@ -26,6 +26,8 @@ from .unit_target import UnitTarget, unit_target
 MOST_IN_SETS = 16
 MOST_CONTRIBUTION, SEARCHED, WORKERS, GOLDEN = 1000, 8, 4, Fraction(89, 144)
 FLAT, FIFTH = Fraction(101, 100), Fraction(1, 5)
+# How near the ends of the range within one per cent are found, in K.
+FLAT_STEP = Fraction(1, 100)
 
 
 @dataclass(frozen=True)
@@ -51,13 +53,28 @@ class SupertargetPoint:
 
 
 @dataclass(frozen=True)
+class FlatEnd:
+    """An end of the range in which the cost is within one per cent of the least, in K. `found` where the desk found it
+    between two answers of the program; `open` where the cost is still so low at the last difference that was asked, or
+    beside one that has no cost."""
+
+    difference: Fraction
+    found: bool = False
+    open: bool = False
+
+
+@dataclass(frozen=True)
 class LeastCost:
-    """The difference of least annual cost where energy costs `factor` times as much, and the least and the largest of
-    the differences beside it whose cost is within one per cent."""
+    """The difference of least annual cost where energy costs `factor` times as much, and the ends of the range beside
+    it in which the cost is within one per cent."""
 
     factor: Fraction
     point: SupertargetPoint
-    flat: tuple[Fraction, Fraction]
+    ends: tuple[FlatEnd, FlatEnd]
+
+    @property
+    def flat(self) -> tuple[Fraction, Fraction]:
+        return self.ends[0].difference, self.ends[1].difference
 
     @property
     def annual(self) -> Enclosure:
@@ -101,7 +118,8 @@ def supertarget(case: CaseText, first: int, last: int, step: int, pinch: Pinch |
                     if isinstance(point, str))
     if not points:
         raise Refused(3, 'case', 'no supertarget', f'case: no difference of the range has a cost: {without[0][1]}')
-    least, cheaper, dearer = (least_cost(data, points, 1 + change) for change in (Fraction(0), -FIFTH, FIFTH))
+    whole_range = PointRange(data, points, frozenset(difference for difference, _ in without))
+    least, cheaper, dearer = (whole_range.least(1 + change) for change in (Fraction(0), -FIFTH, FIFTH))
     return Supertarget(data, points, without, least, cheaper, dearer, by_sets)
 
 
@@ -183,22 +201,59 @@ def side_use(data: CostData, uses: Mapping[str, int | Fraction], side: Side) -> 
                 if utility.side is side and utility.name in uses), Fraction(0))
 
 
-def least_cost(data: CostData, points: Sequence[SupertargetPoint], factor: Fraction) -> LeastCost:
-    """The least of the points, and of what the desk finds between it and its neighbours."""
-    def cost(point: SupertargetPoint) -> Fraction:
-        return point.at_energy(factor).middle
-    at = min(range(len(points)), key=lambda place: cost(points[place]))
-    best = points[at]
-    near = points[max(0, at - 1):at + 2]
-    for low, high in zip(near, near[1:]):
-        between = searched(data, low, high, factor)
-        best = between if cost(between) < cost(best) else best
-    first = last = at
-    while first and cost(points[first - 1]) <= cost(best) * FLAT:
-        first -= 1
-    while last + 1 < len(points) and cost(points[last + 1]) <= cost(best) * FLAT:
-        last += 1
-    return LeastCost(factor, best, (points[first].difference, points[last].difference))
+@dataclass(frozen=True)
+class PointRange:
+    """The points of a supertarget by rising difference, and the differences of its range that have no cost."""
+
+    data: CostData
+    points: Sequence[SupertargetPoint]
+    without: frozenset[Fraction]
+
+    def are_neighbours(self, low: int, high: int) -> bool:
+        """Whether both are points, with no difference between them that has no cost."""
+        if low < 0 or high >= len(self.points):
+            return False
+        first, last = self.points[low].difference, self.points[high].difference
+        return not any(first < difference < last for difference in self.without)
+
+    def least(self, factor: Fraction) -> LeastCost:
+        """The least of the points, and of what the desk finds between it and its neighbours."""
+        costs = [point.at_energy(factor).middle for point in self.points]
+        at = costs.index(min(costs))
+        best = self.points[at]
+        for low in (at - 1, at):
+            if self.are_neighbours(low, low + 1):
+                between = searched(self.data, self.points[low], self.points[low + 1], factor)
+                best = min((best, between), key=lambda point: point.at_energy(factor).middle)
+        most = best.at_energy(factor).middle * FLAT
+        return LeastCost(factor, best, (self.flat_end(at, -1, most, factor), self.flat_end(at, 1, most, factor)))
+
+    def flat_end(self, at: int, step: int, most: Fraction, factor: Fraction) -> FlatEnd:
+        """How far the cost stays below the most, from a point on to one side; between two points as the desk finds
+        it."""
+        inside = self.points[at]
+        if inside.at_energy(factor).middle > most:
+            # The least lies in a narrow place beside it.
+            return FlatEnd(inside.difference, open=True)
+        while self.are_neighbours(min(at, at + step), max(at, at + step)):
+            outside = self.points[at + step]
+            if outside.at_energy(factor).middle > most:
+                return self.halved(inside, outside, most, factor)
+            at, inside = at + step, outside
+        return FlatEnd(inside.difference, open=True)
+
+    def halved(self, inside: SupertargetPoint, outside: SupertargetPoint, most: Fraction, factor: Fraction) -> FlatEnd:
+        """Between two points, of which one costs at most this and the other more, the last that costs at most this."""
+        low, high = sorted((inside, outside), key=lambda point: point.difference)
+        near, far = (Fraction(0), Fraction(1)) if inside is low else (Fraction(1), Fraction(0))
+        best = inside
+        while abs(far - near) * (high.difference - low.difference) > FLAT_STEP:
+            middle = proportional(self.data, low, high, (near + far) / 2)
+            if middle.at_energy(factor).middle <= most:
+                near, best = (near + far) / 2, middle
+            else:
+                far = (near + far) / 2
+        return FlatEnd(best.difference, found=best is not inside)
 
 
 def searched(data: CostData, low: SupertargetPoint, high: SupertargetPoint, factor: Fraction) -> SupertargetPoint:

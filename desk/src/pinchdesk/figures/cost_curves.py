@@ -74,7 +74,8 @@ def put_area(axes: Axes, found: Supertarget, across: list[float]) -> None:
 
 def headline_of(found: Supertarget, money: str, shown: Shown) -> str:
     least = found.least
-    first, last = (shown.kelvin(difference, 1) for difference in least.flat)
+    first, last = (('at most ', 'at least ')[at] * end.open + shown.kelvin(end.difference, 1)
+                   for at, end in enumerate(least.ends))
     place, unit = shown.kelvin(least.point.difference), shown.difference_unit
     return f'Least annual cost {least.annual.shown(0)} {money} at {place} {unit}, within 1 % from {first} ' \
            f'to {last} {unit}'

@@ -136,6 +136,12 @@ class PlantSupertarget(PlantAnswer):
         return celsius(self.found.least.point.difference)
 
     @property
+    def flat_k(self) -> tuple[Decimal, Decimal]:
+        """From where to where the annual cost is within one per cent of the least, in K."""
+        first, last = self.found.least.flat
+        return celsius(first), celsius(last)
+
+    @property
     def annual_cost(self) -> Enclosure:
         return self.found.least.annual
 

@@ -135,7 +135,17 @@ def least_facts(least: LeastCost, currency: str, shown: Shown) -> FactRow:
     return (Fact('energy', {0: 'as it is', -1: 'a fifth cheaper', 1: 'a fifth dearer'}[sign(least.factor - 1)]),
             Fact('least difference', Decimal(shown.kelvin(least.point.difference)), unit),
             Fact('annual cost', money(least.annual), f'{currency}/a'),
-            Fact('within 1 % from', Decimal(shown.kelvin(first)), unit), Fact('to', Decimal(shown.kelvin(last)), unit))
+            Fact('within 1 % from', Decimal(shown.kelvin(first)), unit), Fact('to', Decimal(shown.kelvin(last)), unit),
+            Fact('remark', '; '.join(end_remarks(least))))
+
+
+def end_remarks(least: LeastCost) -> list[str]:
+    """Which of the difference and of the ends of its range the desk found, and which may lie farther out."""
+    found = [name for name, is_found in (('least', least.point.found), ('from', least.ends[0].found),
+                                         ('to', least.ends[1].found)) if is_found]
+    open_ends = [name for name, end in zip(('from', 'to'), least.ends) if end.open]
+    return [*([f'{", ".join(found)}: found between two answers of the program'] if found else []),
+            *([f'{", ".join(open_ends)}: the range ends there'] if open_ends else [])]
 
 
 def sign(number: Fraction) -> int:
