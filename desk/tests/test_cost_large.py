@@ -43,10 +43,12 @@ def test_targets_of_thirty_and_thirty_take_a_second(pinch: Pinch) -> None:
 
 @pytest.mark.long
 def test_the_floor_of_thirty_and_thirty_takes_ten_seconds(pinch: Pinch) -> None:
+    """With slices of 5 K, however loaded the processors are."""
     found = targets(plant_of(30, 7), pinch)
     began = time.process_time()
-    floor = area_floor(found.data, {use.name: use.heat for use in found.flow.uses}, 10)
-    assert time.process_time() - began < 12 and found.area.area.low / 2 < floor.area < found.area.area.high
+    floor = area_floor(found.data, {use.name: use.heat for use in found.flow.uses}, 1000, Fraction(5))
+    assert time.process_time() - began < 10 and found.area.area.low * Fraction(7, 10) < floor.area
+    assert floor.area < found.area.area.high
 
 
 @pytest.mark.long

@@ -4,6 +4,7 @@ from __future__ import annotations
 from fractions import Fraction
 
 import pytest
+from conftest import as_objects
 from costed import ONE_TWO, SMALL, costed_case, law_rows, near, targets
 
 from pinchdesk import Pinch, Refused, WordsError, completed, print_case, read_case
@@ -44,9 +45,10 @@ def test_the_range_within_one_per_cent_is_the_same_on_each_grid(step: int, small
 
 def test_a_range_that_goes_on_is_open(pinch: Pinch) -> None:
     least = supertarget(SMALL, 25, 40, 5, pinch).least
-    assert [(end.difference, end.open, end.found) for end in least.ends] == [(5, True, False), (8, True, False)]
+    assert as_objects(*(end.difference for end in least.ends)) == (5, 8)
+    assert all(end.open and not end.found for end in least.ends)
     beside = supertarget(SMALL, 0, 40, 40, pinch).least
-    assert [(end.difference, end.open) for end in beside.ends] == [(8, True), (8, True)]
+    assert as_objects(*(end.difference for end in beside.ends)) == (8, 8) and all(end.open for end in beside.ends)
 
 
 def test_dearer_energy_wants_a_smaller_difference(small: Supertarget) -> None:

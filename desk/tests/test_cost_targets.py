@@ -16,8 +16,9 @@ from pinchdesk.costs.area_floor import area_floor
 from pinchdesk.costs.area_target import AreaTarget, area_target, interval_area, target_of
 from pinchdesk.costs.balanced import Carrier, HeatInterval, carriers, intervals_of
 from pinchdesk.costs.cost_data import CostData, EndTemperatures
+from pinchdesk.costs.cost_target import duty_of_interval, one_two_area
 from pinchdesk.costs.enclosure import Enclosure, total
-from pinchdesk.costs.quick_area import quick_area
+from pinchdesk.costs.quick_area import quick_area, quick_one_two, quick_shells
 from pinchdesk.costs.shells import Duty, correction, correction_at, shells_of, whole_shells
 from pinchdesk.costs.supertarget import supertarget
 from pinchdesk.costs.unit_target import unit_target
@@ -266,8 +267,12 @@ def test_the_area_in_whole_numbers_is_that_of_plants_with_ranges(pinch: Pinch, c
 
 def check_quick_area(case: str, pinch: Pinch) -> None:
     members = carriers(data_of(case), uses_of(case, pinch))
-    found = quick_area(members)
-    assert found and meet(found, target_of(members).area) and found.high - found.low < found.low / 10 ** 20
+    target, part = target_of(members), Fraction(9, 10)
+    shells = total(shells_of(duty_of_interval(area.interval), part) * (area.interval.sources - 1)
+                   for area in target.intervals)
+    for found, slow in ((quick_area(members), target.area), (quick_one_two(members, part), one_two_area(target, part)),
+                        (quick_shells(members, part), shells)):
+        assert found and meet(found, slow) and found.high - found.low <= found.low / 10 ** 20
 
 
 def test_curves_that_touch_have_no_area_in_whole_numbers(pinch: Pinch) -> None:

@@ -16,6 +16,7 @@ from .area_target import AreaTarget, area_target, check_differences
 from .balanced import Carrier, HeatInterval, intervals_of
 from .cost_data import CostData, EndTemperatures
 from .enclosure import Enclosure, total
+from .quick_area import quick_shells
 from .shells import Duty, correction_at, shells_of, whole_shells
 from .unit_target import UnitTarget, unit_target
 
@@ -65,7 +66,9 @@ def priced_target(data: CostData, flow: HeatFlow, area: AreaTarget, found: UnitT
     exponent of the law is below 1."""
     build, law = data.build(Service.EXCHANGER), data.target_law
     units = found.units
-    shells = shell_target(data, build, area, found.regions, units) if build.flow is Flow.ONE_TWO else None
+    shells = None
+    if build.part and build.flow is Flow.ONE_TWO:
+        shells = shell_target(data, build, one_two_area(area, build.part), found.regions, units)
     built = shells.area if shells else area.area
     parts = priced_parts(build, units, max(shells.shells if shells else units, at_most(build, built)))
     capital = price_of(data, law, built, parts)
@@ -73,18 +76,19 @@ def priced_target(data: CostData, flow: HeatFlow, area: AreaTarget, found: UnitT
                       tuple(left_out(data, area, law, found)))
 
 
-def shell_target(data: CostData, build: Build, area: AreaTarget, regions: Sequence[Region],
+def shell_target(data: CostData, build: Build, built: Enclosure, regions: Sequence[Region],
                  units: int) -> ShellTarget:
-    """The shells on each side of each pinch, rounded up there, and at least one a unit."""
+    """The shells that have this area, on each side of each pinch, rounded up there, and at least one a unit."""
     assert build.part is not None
-    counts: list[Enclosure] = []
-    for region in regions:
-        intervals = intervals_of([carrier_of(data, piece) for piece in region.pieces])
-        counts.append(total(shells_of(duty_of_interval(interval), build.part) * (interval.sources - 1)
-                            for interval in intervals))
-    built = one_two_area(area, build.part)
+    counts = [shells_in([carrier_of(data, piece) for piece in region.pieces], build.part) for region in regions]
     whole = sum(whole_shells(count) for count in counts)
     return ShellTarget(tuple(counts), max(whole, units, at_most(build, built)), built)
+
+
+def shells_in(members: Sequence[Carrier], part: Fraction) -> Enclosure:
+    """The shells of the pieces of a region, a real number."""
+    return quick_shells(members, part) or total(shells_of(duty_of_interval(interval), part) * (interval.sources - 1)
+                                                for interval in intervals_of(members))
 
 
 def one_two_area(area: AreaTarget, part: Fraction) -> Enclosure:

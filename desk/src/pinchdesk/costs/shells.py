@@ -7,11 +7,15 @@ from __future__ import annotations
 
 from dataclasses import dataclass
 from fractions import Fraction
+from functools import lru_cache
 from math import ceil
 
 from .cost_data import EndTemperatures
 from .enclosure import Enclosure, enclosed, logarithm, power, square_root
-from .log_mean import log_mean, log_mean_between
+from .log_mean import log_mean, log_mean_between, over_log_mean
+
+# So many ratios of flows are kept in mind: over the least difference those of a case stay the same.
+RATIOS = 4096
 
 
 @dataclass(frozen=True)
@@ -37,9 +41,14 @@ class Duty:
         return (self.cold.high - self.cold.low) / (self.hot.high - self.cold.low)
 
     @property
+    def differences(self) -> tuple[Fraction, Fraction]:
+        """Those at its hot and at its cold end, in K."""
+        return (self.hot.high - self.cold.high) / 10, (self.hot.low - self.cold.low) / 10
+
+    @property
     def mean(self) -> Enclosure:
         """The logarithmic mean of its differences, in K."""
-        return log_mean((self.hot.high - self.cold.high) / 10, (self.hot.low - self.cold.low) / 10)
+        return log_mean(*self.differences)
 
 
 def shells_of(duty: Duty, part: Fraction) -> Enclosure:
@@ -47,11 +56,15 @@ def shells_of(duty: Duty, part: Fraction) -> Enclosure:
     adds up along a straight piece, however that is cut."""
     if duty.flat:
         return enclosed(0)
-    ratio = duty.ratio
-    base = ratio + 1 + square_root(ratio ** 2 + 1)
     warmed = (duty.cold.high - duty.cold.low) / 10
-    mean = log_mean_between(base - 2 * ratio * part, base - 2 * part)
-    return warmed * mean / (2 * part * duty.mean)
+    return shell_share(duty.ratio, part) * over_log_mean(warmed, *duty.differences)
+
+
+@lru_cache(maxsize=RATIOS)
+def shell_share(ratio: Fraction, part: Fraction) -> Enclosure:
+    """How many shells are needed for each logarithmic mean that the cold side warms up."""
+    base = ratio + 1 + square_root(ratio ** 2 + 1)
+    return log_mean_between(base - 2 * ratio * part, base - 2 * part) / (2 * part)
 
 
 def whole_shells(shells: Enclosure) -> int:
@@ -73,6 +86,7 @@ def correction(duty: Duty, shells: int) -> Enclosure | None:
     return factor_at(whole / (whole + (1 - whole) * ladder), ratio)
 
 
+@lru_cache(maxsize=RATIOS)
 def correction_at(ratio: Fraction, part: Fraction) -> Enclosure:
     """Ft of a shell that reaches this part of the greatest effectiveness: that of a target, whose shells are real
     numbers, so that it does not depend on where curves are cut."""

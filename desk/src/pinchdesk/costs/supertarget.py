@@ -10,7 +10,7 @@ from fractions import Fraction
 
 from ..errors import Refused, WordsError
 from ..formats.case import Case, Side, completed, read_case
-from ..formats.cost_rows import Flow, Service
+from ..formats.cost_rows import Build, Flow, Service
 from ..program.answers import Cut, HeatFlow, Targets
 from ..program.run import CaseText, Pinch
 from .annual import AnnualCost, annual_cost, at_most, price_of, priced_parts
@@ -19,7 +19,7 @@ from .balanced import carriers
 from .cost_data import CostData
 from .cost_target import one_two_area, shell_target
 from .enclosure import Enclosure
-from .quick_area import quick_area
+from .quick_area import quick_area, quick_one_two
 from .unit_target import UnitTarget, unit_target
 
 # With more sources the independent sets would take longer than all the rest: units are then sources less one.
@@ -168,16 +168,19 @@ class BuiltArea:
 def built_area(data: CostData, uses: Mapping[str, Fraction], units: UnitTarget) -> BuiltArea:
     """The area at these uses; `Refused` where the curves touch."""
     build = data.build(Service.EXCHANGER)
+    area = paid_area(data, build, uses)
     if build.flow is Flow.COUNTER:
-        return BuiltArea(counter_current_area(data, uses), units.units, None)
-    shells = shell_target(data, build, area_target(data, uses), units.regions, units.units)
-    return BuiltArea(shells.area, units.units, shells.shells)
+        return BuiltArea(area, units.units, None)
+    shells = shell_target(data, build, area, units.regions, units.units)
+    return BuiltArea(area, units.units, shells.shells)
 
 
-def counter_current_area(data: CostData, uses: Mapping[str, Fraction]) -> Enclosure:
-    """The formula's area alone; `Refused` where the curves touch."""
-    quick = None if data.overalls else quick_area(carriers(data, uses))
-    return quick or area_target(data, uses).area
+def paid_area(data: CostData, build: Build, uses: Mapping[str, Fraction]) -> Enclosure:
+    """The formula's area alone, counter-current or in shells; `Refused` where the curves touch."""
+    members, part = None if data.overalls else carriers(data, uses), build.part
+    if part is None or build.flow is Flow.COUNTER:
+        return members and quick_area(members) or area_target(data, uses).area
+    return members and quick_one_two(members, part) or one_two_area(area_target(data, uses), part)
 
 
 def point_of(data: CostData, difference: Fraction, uses: Mapping[str, Fraction], built: BuiltArea,
@@ -280,8 +283,7 @@ def proportional(data: CostData, low: SupertargetPoint, high: SupertargetPoint, 
     uses = {name: mixed(low.uses.get(name, Fraction(0)), high.uses.get(name, Fraction(0)))
             for name in {**low.uses, **high.uses}}
     build = data.build(Service.EXCHANGER)
-    area = one_two_area(area_target(data, uses), build.part) if build.part and build.flow is Flow.ONE_TWO else \
-        counter_current_area(data, uses)
+    area = paid_area(data, build, uses)
     shells = max(low.shells, high.shells) if low.shells and high.shells else None
     built = BuiltArea(area, max(low.units, high.units), shells)
     return point_of(data, mixed(low.difference, high.difference), uses, built,
