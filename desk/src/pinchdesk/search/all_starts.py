@@ -29,8 +29,9 @@ TINY, SMALL = 8, 13
 # What of the time it has in tiny windows; what a bound has in these, and in others; what is left for the last steps;
 # how long the solver waits for a first network.
 STAGED, TINY_BOUND, BOUND, LAST, WAITING = 0.5, 0.02, 0.15, 0.05, 0.1
-# What one job of a tiny case does, and after how many of them without a gain it is done.
-SHORT_JOBS, IDLE = Pace(steps=100, tries=20), 40
+# What one job of a tiny case does, and after how many of them without a gain it is done. Its windows are soon known,
+# and what is gained then is gained by combining their networks.
+SHORT_JOBS, IDLE = Pace(steps=100, tries=20, chains=1, grows=False), 26
 # A network to begin with that has so many times as many exchangers as there are sources is left aside.
 LONG_START = 6.0
 
@@ -145,4 +146,4 @@ class AllStarts:
             kept = {exchanger.name: exchanger.duty for exchanger in self.task.wishes.kept}
             judged = replace(judged, structure=replace(judged.structure, kept=kept))
             finished(self.judge, judged, self.task.most_cost, self.task.begun + self.task.seconds, self.take,
-                     self.task.way.steps is not None)
+                     self.task.way.steps is not None, self.state.bound)

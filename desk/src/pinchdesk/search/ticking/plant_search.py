@@ -21,8 +21,6 @@ from .visiting import Visitor
 
 # A job is asked when so many before it are still at work: as many processes are busy.
 LAG = 8
-# After so many chains there is a job of the whole case.
-CHAINS_TO_ONE = 3
 # With how many times the sources a descent takes so much longer, as an exponent; the fewest descents of a job.
 SLOWER, FEWEST_STEPS = 1.5, 5
 # The sources up to which a job of the whole case does as much as it may, and the fewest combinations of one; of more
@@ -43,8 +41,9 @@ SEEDS = 2 ** 31 - 1
 @dataclass(frozen=True)
 class Pace:
     """How much one job does: descents in a window of ten sources, combinations, changes at a few places, how often the
-    first network is thinned out; and the limits of a program that drops exchangers: nodes, and seconds, which there are
-    only where the search has a time."""
+    first network is thinned out; the limits of a program that drops exchangers: nodes, and seconds, which there are
+    only where the search has a time; after how many chains there is a job of the whole case; and whether jobs of the
+    whole change networks where they need not."""
 
     steps: int = 600
     tries: int = 60
@@ -52,6 +51,8 @@ class Pace:
     thinnings: int = 3
     nodes: int = 200
     seconds: float = 60.0
+    chains: int = 3
+    grows: bool = True
 
     def steps_of(self, window: Window, turn: int) -> int:
         """The descents of a job in a window; fewer at first, so that there is soon something to combine."""
@@ -98,13 +99,13 @@ def chains_of(parts: Sequence[Window]) -> list[int]:
     return [max(1, round((LAG - 2) * square / sum(squares))) for square in squares]
 
 
-def cycle_of(pools: Sequence[WindowPool]) -> list[tuple[int, int] | None]:
-    """A chain of a window, or None for a job of the whole case, one after the other."""
+def cycle_of(pools: Sequence[WindowPool], chains: int) -> list[tuple[int, int] | None]:
+    """A chain of a window, or None for a job of the whole case after so many of them, one after the other."""
     cycle: list[tuple[int, int] | None] = []
     for at, pool in enumerate(pools):
         for number in range(len(pool.chains)):
             cycle.append((at, number))
-            cycle += [None] * (len(cycle) % (CHAINS_TO_ONE + 1) == CHAINS_TO_ONE)
+            cycle += [None] * (len(cycle) % (chains + 1) == chains)
     return cycle + [None] * (None not in cycle)
 
 
@@ -136,7 +137,8 @@ class PlantSearch:
         # How many jobs were taken, and when the last of them found something better.
         self.taken, self.bettered = 0, 0
         # What stays may stand in several windows, so that these are not searched by themselves then.
-        self.cycle: list[tuple[int, int] | None] = [None] if judge.wishes.kept else cycle_of(self.pools)
+        self.cycle: list[tuple[int, int] | None] = [None] if judge.wishes.kept else \
+            cycle_of(self.pools, pace.chains)
 
     def job(self, number: int) -> Job:
         """The job of this number."""
@@ -156,7 +158,7 @@ class PlantSearch:
             return ThinJob(case, self.begin, cost, seed, self.pace.thinnings, aim)
         if self.candidates and order % 3 == 2:
             return DropJob(case, self.candidates.pop(), cost, self.pace.nodes, self.pace.seconds, aim)
-        if self.grounds and (order % 3 == 1 or keeps):
+        if self.grounds and (order % 3 == 1 and self.pace.grows or keeps):
             ground = self.grounds[order // 3 % len(self.grounds)]
             return GrowJob(self.growing, ground, seed, self.pace.of_whole(self.pace.growths, sources, turn), aim)
         empty = [at for at, pool in enumerate(self.pools) if not pool.networks]
