@@ -15,7 +15,7 @@ from selenium.webdriver import Chrome  # noqa: E402
 from selenium.webdriver.common.by import By  # noqa: E402
 from selenium.webdriver.common.keys import Keys  # noqa: E402
 
-from live_browser import NEEDS_BROWSER, LivePage, OpenDesk, Opens, browser  # noqa: E402
+from live_browser import NEEDS_BROWSER, LivePage, OpenDesk, Opens, browser, open_desk  # noqa: E402
 
 pytestmark = NEEDS_BROWSER
 
@@ -41,13 +41,41 @@ def test_a_change_from_outside_is_shown_as_a_step(page: LivePage, desk: OpenDesk
 
 @pytest.mark.long
 def test_a_desk_that_is_gone_is_told_and_nothing_is_lost(page: LivePage, desk: OpenDesk, opens: Opens) -> None:
+    """The next desk has the same port, and its page the steps: in the same tab."""
     page.place(('S1', '120'), ('S3', '137.5'))
-    text = desk.network.read_bytes()
+    text, steps = desk.network.read_bytes(), page.text('#steps')
     desk.kill()
     page.until(lambda: 'does not answer' in page.text('#lost'))
     assert desk.network.read_bytes() == text
-    again, _ = opens(desk.case)
+    again, other = opens(desk.case)
+    assert other.address.split('/')[2] == desk.address.split('/')[2] and other.address != desk.address
+    again.until(lambda: again.text('#steps') == steps)
     assert len(again.exchangers()) == 1
+    again.undo()
+    again.until(lambda: again.exchangers() == [])
+
+
+@pytest.mark.long
+def test_steps_go_on_in_a_window_that_is_opened_anew(page: LivePage, desk: OpenDesk) -> None:
+    """The window that was left open gives them to the next one; after the text was changed meanwhile it does not."""
+    page.place(('S1', '120'), ('S3', '137.5'))
+    steps, driver, first = page.text('#steps'), page.driver, page.driver.current_window_handle
+    desk.kill()
+    page.until(lambda: 'does not answer' in page.text('#lost'))
+    again = open_desk(desk.case)
+    try:
+        driver.switch_to.new_window('tab')
+        page.go(again.address).until(lambda: page.text('#steps') == steps)
+        second = driver.current_window_handle
+        driver.switch_to.window(first)
+        page.until(lambda: 'goes on in the window' in page.text('#lost'))
+        driver.switch_to.window(second)
+        page.undo()
+        page.until(lambda: page.exchangers() == [])
+    finally:
+        again.kill()
+        driver.close()
+        driver.switch_to.window(first)
 
 
 @pytest.mark.long

@@ -22,7 +22,8 @@ from segmented_cases import FEED, FEED_NETWORK
 from pinchdesk import Pinch
 from pinchdesk.formats.written_files import write_whole
 from pinchdesk.live import own_files
-from pinchdesk.live.asked import ON_PLAN, ON_TEXTS
+from pinchdesk.live.asked import ON_PLAN, ON_TEXTS, Made
+from pinchdesk.live.known import Snapshot
 from pinchdesk.live.own_files import ChangedOutside, OpenedTwice, OwnFile, claimed
 from pinchdesk.live.view import Slider, View
 from pinchdesk.program.verdicts import Accepted
@@ -90,6 +91,27 @@ def test_a_new_start_shows_what_was_saved(tmp_path: Path) -> None:
     before = hand.view
     after = opened(tmp_path).view()
     assert (after.grid, after.score, after.texts) == (before.grid, before.score, before.texts)
+
+
+def test_a_desk_that_is_opened_anew_gets_the_steps_that_a_page_has_kept(tmp_path: Path) -> None:
+    """Those of both files alone, and only where nothing was done yet; undo goes on among them."""
+    hand = Hand(bench_of(tmp_path, 'tc3'))
+    hand.drops(hand.piece('S1', 'above'), hand.piece('S3', 'above'))
+    hand.does('finish')
+    hand.does('undo')
+    kept = hand.bench.history()
+    assert [step.text for step in kept] == ['opened', 'E1: S1–S3, 120 kW', 'the rest by utilities']
+    steps = [Made(Snapshot(step.case, step.network), step.text) for step in kept]
+    again = Hand(opened(tmp_path))
+    for at in (0, 2, 3, -2):
+        assert again.bench.go_on(again.view.version, steps, at).refused
+    assert again.bench.go_on(again.view.version, [], 0).refused
+    done = again.bench.go_on(again.view.version, steps, 1)
+    assert [(step.text, step.present) for step in done.view.steps] == [
+        ('opened', False), ('E1: S1–S3, 120 kW', True), ('the rest by utilities', False)]
+    assert again.does('redo').verdict.kind == 'accepted'
+    assert again.does('step', at=0).verdict.kind == 'nothing-placed'
+    assert again.bench.go_on(again.view.version, steps, 0).stale
 
 
 def test_opening_writes_nothing(tmp_path: Path) -> None:

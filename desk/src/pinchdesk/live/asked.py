@@ -25,10 +25,11 @@ LONGEST, LONGEST_STEP = 8_000_000, 200
 
 @dataclass(frozen=True)
 class Made:
-    """What a gesture makes: both texts, and the step in words."""
+    """What a gesture makes: both texts, and the step in words, with its number among all that were made."""
 
     snapshot: Snapshot
     told: str
+    number: int = 0
 
 
 @dataclass(frozen=True)

@@ -4,8 +4,9 @@ from __future__ import annotations
 
 import threading
 from collections import OrderedDict
-from collections.abc import Mapping
+from collections.abc import Mapping, Sequence
 from dataclasses import dataclass, replace
+from itertools import count
 
 from ..errors import DeskError, OutputError
 from ..formats.amounts import seconds_of
@@ -22,7 +23,7 @@ from .offers import moves_of, offers_of
 from .network_view import Standing, judgement_of
 from .own_files import ChangedOutside, OwnFile
 from .seen import seen, slid
-from .view import FileNames, Mark, Offer, Refusal, Slider, StepMade, TradeoffTable, View, WayOffer
+from .view import FileNames, Mark, Offer, Refusal, Slider, StepKept, StepMade, TradeoffTable, View, WayOffer
 from .ways import told_ways, ways_of
 
 MOST_STEPS, MOST_VIEWS, LONGEST_SEARCH = 500, 50, 300
@@ -54,7 +55,8 @@ class Bench:
         self.saved = 'saved' if self.is_kept else 'not kept yet'
         kept = case_file.taken()
         text = as_text(case if case is not None else kept if kept is not None else EMPTY_CASE.encode())
-        self.steps = [Made(Snapshot(text, self.network_of(text)), 'opened')]
+        self.numbers = count(1)
+        self.steps = [Made(Snapshot(text, self.network_of(text)), 'opened', next(self.numbers))]
         self.at = 0
 
     def network_of(self, case: str) -> str:
@@ -79,7 +81,7 @@ class Bench:
             self.views[snapshot] = seen(self.now)
             while len(self.views) > MOST_VIEWS:
                 self.views.popitem(last=False)
-        steps = tuple(StepMade(step.told, number == self.at) for number, step in enumerate(self.steps))
+        steps = tuple(StepMade(step.number, step.told, place == self.at) for place, step in enumerate(self.steps))
         offered = self.keeper.names() if self.keeper and not self.is_kept else ()
         return replace(self.views[snapshot], version=self.version, files=FileNames(*self.titles, self.saved, offered),
                        steps=steps, can_undo=self.at > 0, can_redo=self.at < len(self.steps) - 1)
@@ -112,11 +114,34 @@ class Bench:
             raise NotDone('That changes nothing.')
         self.check(made)
         self.write(made.snapshot)
-        self.steps[self.at + 1:] = [made]
+        self.step(made)
+
+    def step(self, made: Made) -> None:
+        """One step more, in the place of those that were taken back."""
+        self.steps[self.at + 1:] = [replace(made, number=next(self.numbers))]
         if len(self.steps) > MOST_STEPS:
             del self.steps[1]
         self.at = len(self.steps) - 1
         self.version += 1
+
+    def history(self) -> tuple[StepKept, ...]:
+        """All steps with their texts, for a page that keeps them."""
+        with self.lock:
+            return tuple(StepKept(step.number, step.told, step.snapshot.case, step.snapshot.network)
+                         for step in self.steps)
+
+    def go_on(self, version: object, steps: Sequence[Made], at: int) -> GestureDone:
+        """Takes the steps of a desk that ended: what both files hold is one of them, and here nothing was done yet."""
+        with self.lock:
+            self.look()
+            if version != self.version or len(self.steps) > 1:
+                return GestureDone(self.shown(), stale=True)
+            if not 0 <= at < len(steps) <= MOST_STEPS or steps[at].snapshot != self.steps[0].snapshot:
+                return GestureDone(self.shown(), Refusal('The steps that were kept are those of other files.'))
+            self.steps = [replace(step, number=next(self.numbers)) for step in steps]
+            self.at = at
+            self.version += 1
+            return GestureDone(self.shown())
 
     def keep(self, name: str) -> None:
         """Writes both files beside the table, the case by this name, and keeps them from now on."""
@@ -191,9 +216,9 @@ class Bench:
         text = as_text(case) if case is not None else now.case
         made = Snapshot(text, as_text(network) if network is not None and network.strip() else begun(text))
         if made != now:
-            self.steps[self.at + 1:] = [Made(made, 'changed outside')]
-            self.at += 1
-        self.version += 1
+            self.step(Made(made, 'changed outside'))
+        else:
+            self.version += 1
 
     def moves(self, version: object, exchanger: str) -> tuple[Offer, ...] | GestureDone:
         """Where the ends of an exchanger of what the page saw can be moved to."""

@@ -3,7 +3,9 @@ says that something has changed."""
 from __future__ import annotations
 
 import asyncio
+import hashlib
 import json
+import os
 import socket
 from collections.abc import Awaitable, Callable, Mapping
 from contextlib import suppress
@@ -17,11 +19,13 @@ from starlette.requests import Request
 from starlette.responses import Response
 from starlette.websockets import WebSocket, WebSocketDisconnect
 
-from ..errors import DeskError
+from ..errors import DeskError, ProgramError
 from ..failures import failure_of
 from ..program.causes import lines_of
+from .asked import LONGEST_STEP, Made
 from .bench import Bench, GestureDone
 from .guard import HEADERS, HOST, OF_REPORT, Guard, Scope, fresh_token
+from .known import Snapshot
 from .view import Refusal, Slider, TradeoffTable, View
 
 PAGE = Path(__file__).resolve().parent / 'page'
@@ -32,6 +36,7 @@ LOOKS = 0.5
 # The pictures by their addresses, and what a search may be told.
 PICTURES = {f'picture/{name}.svg': name for name in ('grid', 'curves', 'area', 'driving')}
 SEARCHED = ('seconds', 'above')
+FIRST_PORT, PORTS = 20_000, 12_000
 Receive = Callable[[], Awaitable[Any]]
 Send = Callable[[Any], Awaitable[None]]
 
@@ -121,6 +126,8 @@ class LiveDesk:
     async def got(self, path: str) -> Response:
         if path == 'view':
             return answer(await run_in_threadpool(self.bench.view))
+        if path == 'history':
+            return answer(await run_in_threadpool(self.bench.history))
         if path == 'report':
             return await self.worded(self.bench.report, 'text/html')
         if path in PICTURES:
@@ -157,12 +164,23 @@ class LiveDesk:
         if path == 'slider' and isinstance(asked.get('difference'), str):
             found = await run_in_threadpool(self.bench.slider, version, asked['difference'])
             return answer(found) if isinstance(found, Slider) else told(found)
+        if path == 'history':
+            return await self.gone_on(asked)
         if path in ('search', 'tradeoff'):
             return await self.searched(path, asked)
         if path == 'close':
             self.close()
             return answer({})
         return nothing()
+
+    async def gone_on(self, asked: Mapping[str, Any]) -> Response:
+        """The answer to the steps that a page has kept of a desk that ended."""
+        at, steps = asked.get('at'), kept_steps(asked.get('steps'))
+        if not isinstance(at, int) or steps is None:
+            return nothing()
+        done = await run_in_threadpool(self.bench.go_on, asked.get('version'), steps, at)
+        self.tell()
+        return told(done)
 
     async def searched(self, path: str, asked: Mapping[str, Any]) -> Response:
         """The answer to a search, which takes its time: of a network, or of exchangers against cost."""
@@ -200,6 +218,18 @@ class LiveDesk:
             self.waiting.discard(event)
 
 
+def kept_steps(content: object) -> list[Made] | None:
+    """The steps that a page has kept; None where they are none."""
+    made: list[Made] = []
+    for step in content if isinstance(content, list) else [None]:
+        texts = [step.get(name) for name in ('text', 'case', 'network')] if isinstance(step, dict) else []
+        words = [text for text in texts if isinstance(text, str)]
+        if len(words) != 3:
+            return None
+        made.append(Made(Snapshot(words[1], words[2]), words[0][:LONGEST_STEP]))
+    return made
+
+
 async def ended(window: WebSocket) -> None:
     """Waits until a window is closed; what it says is not heard."""
     while (await window.receive())['type'] != 'websocket.disconnect':
@@ -220,13 +250,33 @@ def listed(name: str, found: object) -> Response:
     return answer({name: found})
 
 
+def port_of(path: str) -> int:
+    """The port of a case, by its place; below those that systems give away by themselves."""
+    digest = hashlib.sha256(os.path.realpath(path).encode('utf-8', 'surrogateescape')).digest()
+    return FIRST_PORT + int.from_bytes(digest[:4], 'big') % PORTS
+
+
+def listening(port: int) -> socket.socket:
+    """A socket that listens on this port, or on a free one."""
+    for wanted in (port, 0):
+        line = socket.socket(socket.AF_INET, socket.SOCK_STREAM)
+        # Connections of a desk that was killed are still in the way otherwise.
+        line.setsockopt(socket.SOL_SOCKET, socket.SO_REUSEADDR, 1)
+        try:
+            line.bind((HOST, wanted))
+            line.listen(100)
+            return line
+        except OSError:
+            line.close()
+    raise ProgramError('no port of this machine is free')
+
+
 class Served:
-    """A live desk on a free port, which begins to listen at once: its address can be told then."""
+    """A live desk on a port of its own, which begins to listen at once: its address can be told then. The same case has
+    the same port where that is free, so that a page which was left open can give its steps to the next one."""
 
     def __init__(self, bench: Bench) -> None:
-        self.socket = socket.socket(socket.AF_INET, socket.SOCK_STREAM)
-        self.socket.bind((HOST, 0))
-        self.socket.listen(100)
+        self.socket = listening(port_of(bench.case_file.path))
         self.guard = Guard(fresh_token(), self.socket.getsockname()[1])
         self.desk = LiveDesk(bench, self.guard, self.close)
         config = uvicorn.Config(self.desk, log_level='critical', access_log=False, server_header=False,

@@ -20,6 +20,9 @@ What the page asks, below `/TOKEN/`:
   `{"refused": Refusal, "view": View}`; nothing is written. `GET report` is the page for the reviewer,
   `GET picture/NAME.svg` are pictures, each for a window of its own: the `links` of the view. `POST close {}` ends the
   desk.
+- `GET history` answers `[StepKept, ..]`. `POST history {"version": n, "steps": [{text, case, network}, ..], "at": n}`
+  gives a desk that was just opened the steps of one that ended, where that is what both files hold; it answers as a
+  gesture does.
 - `POST moves {"version": n, "exchanger": name}` answers `{"offers": [Offer, ..]}`: where its ends can be moved to, the
   best first. The same for 409.
 - WebSocket `changes`: a JSON number, the version, whenever it has changed (and once at the beginning).
@@ -338,10 +341,21 @@ class ExchangerRow:
 
 @dataclass(frozen=True)
 class StepMade:
-    """A step that was made: in words, and whether it is the present one."""
+    """A step that was made: in words, and whether it is the present one. `id` names it as long as the desk is open."""
 
+    id: int
     text: str
     present: bool
+
+
+@dataclass(frozen=True)
+class StepKept:
+    """A step with both of its texts, as the page keeps it for a desk that is opened anew."""
+
+    id: int
+    text: str
+    case: str
+    network: str
 
 
 @dataclass(frozen=True)

@@ -231,8 +231,17 @@
 
 /**
  * @typedef {object} StepMade
+ * @property {number} id
  * @property {string} text
  * @property {boolean} present
+ */
+
+/**
+ * @typedef {object} StepKept
+ * @property {number} id
+ * @property {string} text
+ * @property {string} case
+ * @property {string} network
  */
 
 /**

@@ -6,6 +6,7 @@ import { CurvesPart } from './curves.js';
 import { make, part } from './dom.js';
 import { GridPart } from './grid.js';
 import { helpPart } from './help.js';
+import { History } from './history.js';
 import { keepingPart } from './keeping.js';
 import { restPart, tradeoffPart } from './rest.js';
 import { scorePart, stepsPart } from './score.js';
@@ -58,6 +59,7 @@ function focusFirst(panel) {
 async function begin() {
   const talk = new Talk(new URL('.', location.href).href);
   const store = new Store(await talk.view());
+  const history = new History(talk, store);
   const actions = new Actions(talk, store);
   const help = helpPart(part('help'));
   actions.keeper = keepingPart(part('keeping'), actions);
@@ -66,7 +68,8 @@ async function begin() {
   /** @type {GridPart} */
   const grid = new GridPart(part('grid'), actions, (_, to) => chosen.enter(to));
   for (const renderer of [
-    grid.render, topPart(actions, help), toastPart(), lostPart(), new StreamsPart(part('streams'), actions).render,
+    history.render, grid.render, topPart(actions, help), toastPart(), lostPart(),
+    new StreamsPart(part('streams'), actions).render,
     new CurvesPart(part('curves'), actions).render, chosen.render,
     new WaysPart(part('ways'), actions, () => grid.keys.enter()).render, scorePart(part('score'), actions),
     stepsPart(part('steps'), actions), tablePart(part('table'), actions), textsPart(part('texts'), actions),
@@ -74,6 +77,7 @@ async function begin() {
   ]) store.add(renderer);
   document.addEventListener('keydown', event => pressed(event, actions, help));
   actions.findWays();
+  history.goOn().then(view => view && actions.show(view));
   talk.changes(version => actions.refresh(version), lost => {
     if (lost) store.set({ lost });
     else if (store.state.lost) actions.refresh();

@@ -26,6 +26,7 @@
  * @property {Refusal | null} refusal
  * @property {boolean} busy
  * @property {boolean} lost whether the desk does not answer
+ * @property {boolean} elsewhere whether it goes on in a window that was opened anew
  * @property {boolean} closed whether it was closed from here
  */
 
@@ -37,7 +38,7 @@ export class Store {
     /** @type {State} */
     this.state = {
       view, chosen: null, offers: null, instead: null, moves: null, ways: [], waysAsked: true, way: null, partner: null,
-      slider: null, refusal: null, busy: false, lost: false, closed: false,
+      slider: null, refusal: null, busy: false, lost: false, elsewhere: false, closed: false,
     };
     /** @type {Renderer[]} */
     this.renderers = [];

@@ -4,6 +4,7 @@
 /** @typedef {import('./contract.js').Offer} Offer */
 /** @typedef {import('./contract.js').Refusal} Refusal */
 /** @typedef {import('./contract.js').Slider} Slider */
+/** @typedef {import('./contract.js').StepKept} StepKept */
 /** @typedef {import('./contract.js').TradeoffTable} TradeoffTable */
 /** @typedef {import('./contract.js').View} View */
 /** @typedef {import('./contract.js').WayOffer} WayOffer */
@@ -125,6 +126,25 @@ export class Talk {
   async slider(version, difference) {
     const { status, content } = await this.ask('slider', { version, difference });
     return status === 409 ? null : content;
+  }
+
+  /**
+   * All steps with their texts.
+   * @returns {Promise<StepKept[]>}
+   */
+  async history() {
+    return (await this.ask('history')).content;
+  }
+
+  /**
+   * Gives a desk that was just opened the steps of one that ended.
+   * @param {number} version
+   * @param {import('./history.js').Kept} kept
+   * @returns {Promise<Done>}
+   */
+  async goOn(version, kept) {
+    const { status, content } = await this.ask('history', { version, ...kept });
+    return { ...content, late: status === 409 };
   }
 
   /** Ends the desk. */

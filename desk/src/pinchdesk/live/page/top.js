@@ -76,11 +76,12 @@ export function toastPart() {
 export function lostPart() {
   const place = part('lost');
   return (state, before) => {
-    if (!changed(state, before, 'lost', 'closed')) return;
+    if (!changed(state, before, 'lost', 'closed', 'elsewhere')) return;
     const gone = state.lost || state.closed;
     place.hidden = !gone;
     place.className = state.closed ? 'closed' : '';
     place.textContent = state.closed ? 'The desk is closed. All that was done is in the two files.'
+      : state.elsewhere ? 'The desk goes on in the window that was opened last, with these steps.'
       : state.lost ? 'The desk does not answer. All that was done is in the two files: call “pinchdesk open” again, '
         + 'and look at the page that it opens.' : '';
     document.body.classList.toggle('is-lost', gone);
