@@ -7,6 +7,7 @@ import pytest
 from conftest import CASES, EXAMPLES, few_of, pinchdesk
 from hypothesis import given
 from hypothesis import strategies as some
+from segmented_cases import FEED
 
 from pinchdesk.formats.case import Case
 from pinchdesk.live.case_lines import added, removed, with_cell, with_difference
@@ -21,10 +22,12 @@ FIELDS = {'stream': ('name', 'supply', 'target', 'flow', 'load', 'contribution')
 
 def cells(case: Case) -> list[tuple[str, str, str]]:
     """The cells of a case as they are shown: row, field and text."""
-    rows = [(row, FIELDS['stream']) for row in stream_rows(case)]
+    whole = [row for row in stream_rows(case) if row.segments]
+    rows = [(row, FIELDS['stream']) for of_plant in stream_rows(case) for row in of_plant.segments or (of_plant,)]
     utilities = [(row, FIELDS['utility']) for row in utility_rows(case) if not row.invented]
     found = [(row.row, field, str(getattr(row, field))) for row, fields in rows for field in fields]
     found += [(row.row, field, str(getattr(row, field))) for row, fields in utilities for field in fields]
+    found += [(row.row, 'name', row.name) for row in whole]
     return [cell for cell in found if cell[2]]
 
 
@@ -81,3 +84,34 @@ def test_what_goes_takes_its_forbidden_matches_with_it() -> None:
     assert 'forbid,S1,S3' in forbidden and 'forbid' not in removed(forbidden, 'stream S1')
     renamed = with_cell(forbidden, completed_live(forbidden), 'stream S1', 'name', 'HX')
     assert 'forbid,HX,S3' in renamed and 'S1' not in renamed
+
+
+def test_a_stream_of_several_segments_is_one_row_and_its_kinks_move_together() -> None:
+    case = completed_live(FEED)
+    feed = next(row for row in stream_rows(case) if row.segments)
+    assert (feed.row, feed.name, feed.supply, feed.target, feed.flow) == ('whole FEED', 'FEED', '30', '120', '')
+    assert [row.name for row in feed.segments] == ['FEED-1', 'FEED-2', 'FEED-3']
+    for row, field, typed, ends in (('stream FEED-1', 'target', '85', [('30', '85'), ('85', ''), ('85', '120')]),
+                                    ('stream FEED-3', 'supply', '75', [('30', '75'), ('75', ''), ('75', '120')]),
+                                    ('stream FEED-2', 'supply', '90', [('30', '90'), ('90', ''), ('90', '120')]),
+                                    ('stream FEED-1', 'supply', '20', [('20', '80'), ('80', ''), ('80', '120')])):
+        edited = completed_live(with_cell(FEED, case, row, field, typed))
+        whole = next(row for row in stream_rows(edited) if row.segments)
+        assert [(segment.supply, segment.target) for segment in whole.segments] == ends, (row, field)
+
+
+def test_a_stream_of_several_segments_is_renamed_forbidden_and_removed_whole() -> None:
+    case = completed_live(FEED)
+    renamed = with_cell(FEED, case, 'whole FEED', 'name', 'RAW')
+    assert renamed == FEED.replace('#segment,FEED,', '#segment,RAW,')
+    for name in ('K', 'FEED-1', 'no name'):
+        with pytest.raises(NotDone):
+            with_cell(FEED, case, 'whole FEED', 'name', name)
+    forbidden = added(FEED, case, 'forbid', {'hot': 'K', 'cold': 'FEED'})
+    assert [(pair.hot, pair.cold) for pair in completed_live(forbidden).forbids] == [
+        ('K', 'FEED-1'), ('K', 'FEED-2'), ('K', 'FEED-3')]
+    with pytest.raises(NotDone, match='may not meet already'):
+        added(forbidden, completed_live(forbidden), 'forbid', {'hot': 'K', 'cold': 'FEED'})
+    assert removed(forbidden, 'whole FEED') == 'contribution,,50,,,,\nhot,H,2000,900,250,,\nhot,K,900,500,100,,\n'
+    with pytest.raises(NotDone):
+        removed(FEED, 'whole K')

@@ -16,6 +16,7 @@ from selenium.webdriver.common.by import By  # noqa: E402
 from selenium.webdriver.common.keys import Keys  # noqa: E402
 
 from live_browser import NEEDS_BROWSER, LivePage, OpenDesk, Opens, copied  # noqa: E402
+from segmented_cases import FEED  # noqa: E402
 
 pytestmark = NEEDS_BROWSER
 
@@ -309,3 +310,80 @@ def test_exchangers_against_cost_and_a_network_that_is_taken(page: LivePage, des
     page.until(lambda: len(page.exchangers()) == count)
     page.says('Accepted')
     assert audited(desk) == 'accepted' and f'{count} exchangers' in page.text('#steps [aria-current]')
+
+
+def fill_in(page: LivePage, kind: str, **fields: str) -> None:
+    """Fills in a form that adds something, by keys, and sends it."""
+    page.until(lambda: page.all(f'[data-key="add {kind}"]'))[0].click()
+    for name, text in fields.items():
+        page.one(f'[data-key="new {kind} {name}"]').send_keys(text)
+    page.one(f'[data-key="add {kind} now"]').click()
+
+
+@pytest.mark.long
+def test_what_is_added_renamed_and_removed_by_forms(page: LivePage, desk: OpenDesk) -> None:
+    fill_in(page, 'stream', name='S9', side='cold', supply='20', target='60', flow='1.5')
+    page.until(lambda: page.all('#streams input[aria-label="supply of S9"]'))
+    fill_in(page, 'utility', name='MP', side='hot', level='230', price='100')
+    page.until(lambda: page.all('#streams input[aria-label="level of MP"]'))
+    fill_in(page, 'forbid', hot='S1', cold='S9')
+    page.until(lambda: 'S1 and S9 may not meet' in page.text('.forbids'))
+    name = page.one('#streams input[aria-label="name of S9"]')
+    name.send_keys(Keys.CONTROL + 'a' + Keys.NULL, 'FEED', Keys.ENTER)
+    page.until(lambda: 'S1 and FEED may not meet' in page.text('.forbids'))
+    assert 'cold,FEED,200,600,150,,' in desk.case.read_text(encoding='utf-8')
+    page.one('[data-key="remove stream FEED"]').click()
+    page.until(lambda: not page.all('.forbids') and not page.all('#streams input[aria-label="name of FEED"]'))
+    assert 'FEED' not in desk.case.read_text(encoding='utf-8') + desk.network.read_text(encoding='utf-8')
+    assert not page.errors()
+
+
+@pytest.mark.long
+def test_shares_utilities_and_names_by_forms(opens: Opens, tmp_path: Path) -> None:
+    """A split with shares that are typed, then joined; a heater with another utility and another name."""
+    page, desk = opens(copied(tmp_path, 'two-steam-levels'), tmp_path / 'mine.txt')
+    piece = page.one('#grid [data-piece].cold')
+    page.driver.execute_script('arguments[0].focus()', piece)
+    page.press('s')
+    page.until(lambda: page.all('[data-joint]'))
+    page.driver.execute_script('arguments[0].focus()', page.one('[data-joint]'))
+    page.press(Keys.ENTER)
+    page.until(lambda: page.focused() == 'share 0')
+    page.press('25', Keys.TAB, '75', Keys.ENTER)
+    page.until(lambda: '25 %' in page.text('#grid') and '75 %' in page.text('#grid'))
+    page.driver.execute_script('arguments[0].focus()', page.one('[data-joint]'))
+    page.press(Keys.DELETE)
+    page.until(lambda: not page.all('[data-joint]'))
+    page.button('Serve the rest', '#score').click()
+    page.says('Accepted')
+    heater = str(page.one('.exchanger.heater').get_attribute('data-exchanger'))
+    page.choose(heater)
+    choice = page.one('[data-key="change utility"]')
+    others = [option.text for option in choice.find_elements(By.TAG_NAME, 'option') if not option.is_selected()]
+    choice.send_keys(others[0])
+    page.until(lambda: f'exchanger {heater} {others[0]} ' in desk.network.read_text(encoding='utf-8')
+               or others[0] in page.text('#toast'))
+    page.until(lambda: page.focused() == 'change utility')
+    name = page.one('[data-key=name]')
+    name.send_keys(Keys.CONTROL + 'a' + Keys.NULL, 'H-101', Keys.ENTER)
+    page.until(lambda: 'exchanger H-101 ' in desk.network.read_text(encoding='utf-8'))
+    assert not page.errors()
+
+
+@pytest.mark.long
+def test_a_stream_of_several_segments_is_one_line_that_opens(opens: Opens, tmp_path: Path) -> None:
+    (tmp_path / 'feed.csv').write_text(FEED, encoding='utf-8')
+    page, desk = opens(tmp_path / 'feed.csv')
+    assert not page.all('#streams input[aria-label="CP of FEED-1"]')
+    page.driver.execute_script('arguments[0].focus()', page.one('[data-key="unfold whole FEED"]'))
+    page.press(Keys.ENTER)
+    page.until(lambda: page.all('#streams input[aria-label="CP of FEED-1"]'))
+    assert page.focused() == 'unfold whole FEED'
+    kink = page.one('#streams input[aria-label="target of FEED-1"]')
+    kink.send_keys(Keys.CONTROL + 'a' + Keys.NULL, '85', Keys.ENTER)
+    page.until(lambda: page.all('#streams input[aria-label="supply of FEED-3"][value="85"]'))
+    assert 'cold,FEED-3,850,1200' in desk.case.read_text(encoding='utf-8')
+    name = page.one('#streams input[aria-label="name of FEED"]')
+    name.send_keys(Keys.CONTROL + 'a' + Keys.NULL, 'RAW', Keys.ENTER)
+    page.until(lambda: page.all('[data-row=RAW]'))
+    assert not page.errors()

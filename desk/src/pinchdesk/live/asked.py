@@ -213,7 +213,7 @@ def cell(known: Known, fields: Fields) -> Made:
     case = case_of(known)
     made = with_cell(known.snapshot.case, case, row, field, text)
     name = row.partition(' ')[2]
-    if field == 'name' and not row.startswith('forbid'):
+    if field == 'name' and row.startswith(('stream', 'utility')):
         network = renamed_source(known.snapshot.network, name, text)
         return Made(Snapshot(made, network), f'{name} is {text}')
     return Made(with_case(known, made), f'{name}: {field} {text.strip() or "none"}')

@@ -8,6 +8,7 @@ import re
 from collections.abc import Callable, Sequence
 from dataclasses import dataclass, replace
 from fractions import Fraction
+from itertools import product
 
 from ..formats.amounts import exact
 from ..formats.case import ANY_HEAT, Case, Side, Stream, Utility, decoded, is_passed_over
@@ -21,6 +22,8 @@ WIDTH = 7
 COLUMNS = {'stream': {'name': 1, 'supply': 2, 'target': 3, 'flow': 4, 'load': 5, 'contribution': 6},
            'utility': {'name': 1, 'level': 2, 'least': 3, 'most': 4, 'price': 5, 'contribution': 6},
            'forbid': {'hot': 1, 'cold': 2}}
+# How a row of a stream of several segments is called, and the fields that its segments share with those beside them.
+WHOLE, ENDS = 'whole ', frozenset(('supply', 'target'))
 # Where the names of sources stand in rows, comments of the desk among them.
 NAMED = {'hot': (1,), 'cold': (1,), 'heater': (1,), 'cooler': (1,), 'forbid': (1, 2), '#name': (2,), '#segment': (2,),
          '#film': (1,), '#overall': (1, 4), '#material': (1,), '#range': (1,), '#utility': (1,)}
@@ -136,6 +139,8 @@ class Typed:
 def with_cell(text: str, case: Case, row: str, field: str, typed: str) -> str:
     """The text with another field of a row. A name is renamed wherever the case has it."""
     lines = case_lines(text)
+    if row.startswith(WHOLE):
+        return with_whole_name(lines, case, row.removeprefix(WHOLE), field, typed).text()
     at = lines.found(row)
     kind = KINDS[lines.rows[at][0]]
     if field not in COLUMNS[kind]:
@@ -148,7 +153,47 @@ def with_cell(text: str, case: Case, row: str, field: str, typed: str) -> str:
     fields[COLUMNS[kind][field]] = made
     if kind == 'stream' and field == 'supply' and fields[5]:
         fields[3] = made
-    return lines.with_row(at, fields).text()
+    lines = lines.with_row(at, fields)
+    # One at a single temperature begins and ends there.
+    for end in ENDS if kind == 'stream' and fields[5] else ENDS & {field}:
+        lines = with_kinks(lines, case, fields[1], end, made) if field in ENDS else lines
+    return lines.text()
+
+
+def with_whole_name(lines: CaseLines, case: Case, old: str, field: str, typed: str) -> CaseLines:
+    """The lines with another name of a stream of several segments."""
+    new = Typed(case).name(typed)
+    if field != 'name' or all(stream.name != old for stream in case.basis.segments):
+        raise NotDone(f'There is no {field} of a stream {old} of several segments.')
+    if new != old and new in {stream.name for stream in (*case.basis.segments, *case.sources)}:
+        raise NotDone(f'{new} is the name of another stream or utility.')
+    for at, fields in enumerate(lines.rows):
+        if fields and fields[0] == '#segment' and fields[1] == old:
+            lines = lines.with_row(at, [fields[0], new, *fields[2:]])
+    return lines
+
+
+def with_kinks(lines: CaseLines, case: Case, segment: str, field: str, temperature: str) -> CaseLines:
+    """The lines in which the segments beside one that ends or begins elsewhere now begin or end there; beyond one at a
+    single temperature that goes on."""
+    for beside in segments_beside(case, segment, field == 'target'):
+        at = lines.found(f'stream {beside}')
+        fields, latent = list(lines.rows[at]), bool(lines.rows[at][5])
+        for place in (2, 3) if latent else (2,) if field == 'target' else (3,):
+            fields[place] = temperature
+        lines = lines.with_row(at, fields)
+        if not latent:
+            break
+    return lines
+
+
+def segments_beside(case: Case, segment: str, behind: bool) -> Sequence[str]:
+    """The segments that follow one of the same stream, or those before it, the nearest first."""
+    for stream in case.basis.segments:
+        if segment in stream.segments:
+            at = stream.segments.index(segment)
+            return stream.segments[at + 1:] if behind else stream.segments[:at][::-1]
+    return ()
 
 
 def renamed(lines: CaseLines, old: str, new: str) -> CaseLines:
@@ -167,6 +212,14 @@ def renamed(lines: CaseLines, old: str, new: str) -> CaseLines:
 def removed(text: str, row: str) -> str:
     """The text without a row, and without the forbidden matches, the segment, the name and the price of what goes."""
     lines = case_lines(text)
+    if row.startswith(WHOLE):
+        whole = row.removeprefix(WHOLE)
+        segments = [fields[2] for fields in lines.rows if fields and fields[0] == '#segment' and fields[1] == whole]
+        if not segments:
+            raise NotDone(f'There is no {row} in the case.')
+        for segment in segments:
+            text = removed(text, f'stream {segment}')
+        return text
     at = lines.found(row)
     name = lines.rows[at][1] if lines.rows[at][0] != 'forbid' else None
     lines = lines.with_row(at, None)
@@ -184,9 +237,7 @@ def added(text: str, case: Case, what: str, fields: dict[str, str]) -> str:
     lines, typed = case_lines(text), Typed(case)
     side = fields.get('side', '')
     if what == 'forbid':
-        check_pair(case, fields.get('hot', ''), fields.get('cold', ''))
-        return lines.inserted(lines.behind(('forbid', *KINDS)), ['forbid', fields['hot'], fields['cold'],
-                                                                 '', '', '', '']).text()
+        return with_forbidden(lines, case, fields.get('hot', ''), fields.get('cold', '')).text()
     if what not in ('stream', 'utility') or side not in ('hot', 'cold'):
         raise NotDone('It has to be a stream or a utility, on the hot or on the cold side.')
     if any(source.name == fields.get('name') for source in case.sources if not is_invented(source)):
@@ -218,10 +269,20 @@ def utility_fields(typed: Typed, fields: dict[str, str]) -> list[str]:
             typed.field('contribution', fields.get('contribution', ''))]
 
 
-def check_pair(case: Case, hot: str, cold: str) -> None:
+def with_forbidden(lines: CaseLines, case: Case, hot: str, cold: str) -> CaseLines:
+    """The lines with a forbidden match; of a stream of several segments with one for each that is not there yet."""
+    segments = {stream.name: stream.segments for stream in case.basis.segments}
     sides = {source.name: source.side for source in case.sources}
-    if sides.get(hot) is not Side.HOT or sides.get(cold) is not Side.COLD:
-        raise NotDone('A forbidden match has a hot and a cold stream or utility.')
+    known = {(pair.hot, pair.cold) for pair in case.forbids}
+    made = [pair for pair in product(segments.get(hot, (hot,)), segments.get(cold, (cold,))) if pair not in known]
+    if not made:
+        raise NotDone(f'{hot} and {cold} may not meet already.')
+    for hot_name, cold_name in made:
+        if sides.get(hot_name) is not Side.HOT or sides.get(cold_name) is not Side.COLD:
+            raise NotDone('A forbidden match has a hot and a cold stream or utility.')
+        row = ['forbid', hot_name, cold_name, '', '', '', '']
+        lines = lines.inserted(lines.behind(('forbid', *KINDS)), row)
+    return lines
 
 
 def with_difference(text: str, case: Case, typed: str) -> str:

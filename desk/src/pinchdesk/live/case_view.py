@@ -7,6 +7,7 @@ from fractions import Fraction
 from ..analysis.pinch_places import side_below, temperatures_at
 from ..formats.case import ANY_HEAT, Case, Side, Stream, Utility
 from ..formats.shown import Shown
+from ..formats.whole_streams import WholeStream, whole_streams
 from ..program.answers import Point
 from .judgement import Whole
 from .pieces import HandPlan
@@ -37,7 +38,16 @@ def difference_of(case: Case) -> Difference:
 
 
 def stream_rows(case: Case) -> tuple[StreamRow, ...]:
-    return tuple(stream_row(case, stream, Shown(case.basis)) for stream in case.streams)
+    """The streams of the plant: one of several segments is a row with these in it."""
+    shown = Shown(case.basis)
+    return tuple(whole_row(case, stream, shown) if isinstance(stream, WholeStream) else stream_row(case, stream, shown)
+                 for stream in whole_streams(case))
+
+
+def whole_row(case: Case, stream: WholeStream, shown: Shown) -> StreamRow:
+    segments = tuple(stream_row(case, segment, shown) for segment in stream.segments)
+    return StreamRow(f'whole {stream.name}', stream.name, stream.side.value, segments[0].supply,
+                     shown.temperature(stream.target, PLACES), '', '', shown.heat(stream.heat), '', segments)
 
 
 def stream_row(case: Case, stream: Stream, shown: Shown) -> StreamRow:

@@ -132,7 +132,7 @@ class ScoreView:
 @dataclass(frozen=True)
 class StreamRow:
     """A stream; of a latent one `target` and `flow` are empty. `contribution` is empty where it has the case's. `row`
-    names it in gestures."""
+    names it in gestures. A stream of several segments has them in it, and no numbers of its own but its ends."""
 
     row: str
     name: str
@@ -143,6 +143,7 @@ class StreamRow:
     load: str
     heat: str
     contribution: str
+    segments: tuple[StreamRow, ...] = ()
 
 
 @dataclass(frozen=True)

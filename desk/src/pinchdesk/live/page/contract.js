@@ -71,6 +71,7 @@
  * @property {string} load
  * @property {string} heat
  * @property {string} contribution
+ * @property {StreamRow[]} segments
  */
 
 /**

@@ -1,6 +1,7 @@
 // The steps with their texts, which the page keeps: a desk that is killed has lost them, and one that is opened anew
-// for the same files gets them from here. A page of the same tab finds them in its `sessionStorage`, where they are from
-// one page to the next alone; a page in another tab asks for them, and is answered where it knows what both files hold.
+// for the same files gets them from here. A page of the same tab finds them in its `sessionStorage`, where they are
+// from one page to the next alone; a page in another tab asks for them, and is answered where it knows what both files
+// hold.
 
 /** @typedef {import('./contract.js').StepKept} StepKept */
 /** @typedef {import('./contract.js').Texts} Texts */

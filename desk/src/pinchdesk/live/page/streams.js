@@ -32,6 +32,8 @@ export class StreamsPart {
     /** What was typed last, and in which cell: where it is refused it stays there. */
     this.typed = { key: '', text: '' };
     this.opened = '';
+    /** @type {Set<string>} the streams whose segments are shown */
+    this.unfolded = new Set();
     /** How long the longest name is. */
     this.longest = 0;
     /** @type {Map<string, string>} what is wrong in a cell */
@@ -52,7 +54,8 @@ export class StreamsPart {
       make('h2', { id: 'streams-title' }, 'Streams ', make('small', {}, `${temperature}, ${flow}, ${heat}`)),
       make('div', { class: 'wide' }, make('table', { class: 'cells' },
         head(['', 'supply', 'target', 'CP', 'load', 'own ΔT', '']),
-        make('tbody', {}, ...view.streams.map(stream => this.streamRow(stream))))),
+        make('tbody', {}, ...view.streams.flatMap(stream => stream.segments.length ? this.wholeRows(stream)
+          : [this.streamRow(stream)])))),
       view.utilities.length > 0 && make('div', { class: 'wide' }, make('table', { class: 'cells' },
         head(['utility', 'level', 'uses', 'at most', 'price', 'own ΔT', '']),
         make('tbody', {}, ...view.utilities.map(utility => this.utilityRow(utility))))),
@@ -62,6 +65,31 @@ export class StreamsPart {
       ...[...this.wrong.values()].slice(0, 1).map(text => make('p', { class: 'fault', id: 'cell-fault' }, `⚠ ${text}`)),
       this.adders(view, difference));
   };
+
+  /**
+   * A stream of several segments is one row, which opens.
+   * @param {StreamRow} stream
+   */
+  wholeRows(stream) {
+    const { segments, name } = stream, first = segments[0], last = segments[segments.length - 1];
+    const open = this.unfolded.has(stream.row);
+    const toggle = () => {
+      if (!this.unfolded.delete(stream.row)) this.unfolded.add(stream.row);
+      this.render(this.actions.state, null);
+    };
+    return [make('tr', { class: stream.side }, make('th', { scope: 'row' },
+      make('span', { 'aria-label': stream.side, role: 'img' }, stream.side === 'hot' ? '→' : '←'), ' ',
+      this.cell(stream.row, 'name', name, name, 'name')),
+    this.data(first.row, 'supply', first.supply, name),
+    last.target ? this.data(last.row, 'target', last.target, name) : make('td', { class: 'number' }, stream.target),
+    make('td', {}, make('button', {
+      type: 'button', class: 'link', 'data-key': `unfold ${stream.row}`, 'aria-expanded': String(open), click: toggle,
+      'aria-label': `${segments.length} segments of ${name}`,
+    }, `${open ? '▾' : '▸'} ${segments.length} segments`)),
+    make('td', { class: 'number' }, stream.heat), make('td'),
+    make('td', {}, this.remover(stream.row, name))),
+    ...open ? segments.map(segment => this.streamRow(segment)) : []];
+  }
 
   /** @param {StreamRow} stream */
   streamRow(stream) {
