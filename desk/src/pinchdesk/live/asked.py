@@ -15,6 +15,7 @@ from .adapting import adapted
 from .case_lines import added, removed, with_cell, with_difference
 from .gestures import NotDone
 from .known import Known, Snapshot, begun, completed_live
+from .mending import mended
 from .network_lines import write_plan
 from .pieces import HandPlan
 from .seats import Seat
@@ -281,8 +282,17 @@ def texts(known: Known, fields: Fields) -> Made:
     return Made(snapshot, (fields.maybe('told') or 'text edited')[:LONGEST_STEP])
 
 
+def hold(known: Known, fields: Fields) -> Made:
+    del fields
+    if known.plan is not None or not known.read_only:
+        raise NotDone('This network can be changed here already, or is none.')
+    made = mended(case_of(known), known.snapshot.network)
+    return Made(Snapshot(known.snapshot.case, write_plan(made.plan, made.layout)), made.told)
+
+
 ON_TEXTS: dict[str, Callable[[Known, Fields], Made]] = {
-    'cell': cell, 'difference': difference, 'add': add, 'remove': remove, 'texts': texts}
+    'cell': cell, 'difference': difference, 'add': add, 'remove': remove, 'texts': texts,
+    'hold': hold}
 
 
 def made_by(known: Known, kind: str, fields: Fields) -> Made:

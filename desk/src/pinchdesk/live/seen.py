@@ -8,8 +8,10 @@ from ..program.verdicts import Accepted, Rejected
 from .areas import Areas
 from .case_view import (curve_picture, difference_of, forbid_rows, pinch_marks, stream_rows, unit_names, utility_rows)
 from .grid_view import Lines, grid_picture, laid_out
+from .gestures import NotDone
 from .judgement import Whole
 from .known import Known
+from .mending import mended
 from .network_view import exchanger_rows, faults_of, judgement_of, marks_of, score_of, sentence_of
 from .other_words import links
 from .view import Difference, FileNames, Judgement, ScoreView, Slider, Texts, UnitNames, View
@@ -32,7 +34,18 @@ def seen(known: Known) -> View:
         curve_picture(standing.of_left) if standing and standing.of_left else None,
         grid_picture(lines) if lines else None,
         exchanger_rows(lines, standing) if lines and standing else (),
-        (), False, False, Texts(known.snapshot.case, known.snapshot.network), links(known), known.read_only)
+        (), False, False, Texts(known.snapshot.case, known.snapshot.network), links(known), known.read_only,
+        holding_told(known))
+
+
+def holding_told(known: Known) -> str:
+    """What would be open where a network is made one for the hand; empty where that is not needed, or cannot be."""
+    if not known.read_only or known.case is None:
+        return ''
+    try:
+        return mended(known.case, known.snapshot.network).told
+    except NotDone:
+        return ''
 
 
 def lines_of_known(known: Known) -> Lines | None:

@@ -41,7 +41,7 @@ the heat unit of the case; `?` may be left out):
   the shares of all lanes of a joint in percent, as texts; `join {joint}`: the lanes of a joint, without exchangers but
   for one lane, are one again.
 - `move {exchanger, piece}`: the end of the exchanger on the side of the piece is moved to there.
-- `rename {exchanger, name}`.
+- `rename {exchanger, name}`. `hold {}`: a network that can be changed by its text alone becomes one for the hand.
 - `shift {way, heat}` along a way, `break {way}`: so far that its smallest exchanger goes.
 - `difference {difference}`: the least approach, as the slider has it.
 - `cell {row, field, text}`: a field of a stream, utility or forbidden match; `row` is its `row`.
@@ -391,7 +391,8 @@ class Difference:
 @dataclass(frozen=True)
 class View:
     """All that the page shows. `read_only` is empty, or why nothing can be placed: then texts and cells alone are
-    edited. `grid` is None where the network is none."""
+    edited, and `hold` says what of it would be open where it is made one for the hand. `grid` is None then, and where
+    the network is none."""
 
     version: int
     files: FileNames
@@ -412,6 +413,7 @@ class View:
     texts: Texts
     links: tuple[PictureLink, ...]
     read_only: str = ''
+    hold: str = ''
 
 
 @dataclass(frozen=True)

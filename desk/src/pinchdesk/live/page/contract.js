@@ -288,6 +288,7 @@
  * @property {Texts} texts
  * @property {PictureLink[]} links
  * @property {string} read_only
+ * @property {string} hold
  */
 
 /**

@@ -64,7 +64,13 @@ export class GridPart {
     this.drag.stop();
     if (!view.grid) {
       this.picture = null;
-      fill(this.panel, make('p', { class: 'none' }, view.read_only || 'There is no network to be shown.'));
+      fill(this.panel, make('p', { class: 'none' }, view.read_only || 'There is no network to be shown.'),
+        view.hold && make('p', { class: 'none' }, make('button', {
+          type: 'button', 'data-key': 'hold', click: () => this.actions.do({ kind: 'hold' }),
+        }, `Change it here, with ${view.hold}`)),
+        view.read_only && make('div', { class: 'wide' }, make('img', {
+          src: `picture/grid.svg?${view.version}`, alt: 'the grid diagram of this network',
+        })));
       return;
     }
     const focused = this.panel.contains(document.activeElement);
