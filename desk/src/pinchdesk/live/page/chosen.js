@@ -48,7 +48,7 @@ export class ChosenPart {
       if (chosen.kind === 'exchanger') return exchangerContent(chosen.name, state, this.actions);
     }
     const open = grid !== null && grid.pieces.length > 0;
-    return [title('Place exchangers'), make('p', {}, open
+    return [title('Place exchangers'), make('p', {}, !grid ? 'There is no diagram here to work on.' : open
       ? 'Drag from an open piece (dashed) to a piece of the other side, or to a utility. Begin at the pinch and go '
         + 'away from it. Or move with Tab and the arrow keys, and press Enter.'
       : 'Nothing is open. Choose an exchanger, or a loop or a path beside this.')];
@@ -211,8 +211,8 @@ function exchangerContent(name, state, actions) {
     others.length > 0 && make('h3', {}, 'Instead'),
     others.length > 0 && make('ol', { class: 'offers', 'aria-label': 'other places' }, ...others.map((offer, at) =>
       make('li', {}, offerButton(offer, `instead ${at}`, actions, () => actions.placeInstead(offer))))),
-    facts(name, view),
     ...shape.kind === 'match' ? movesContent(name, state, actions) : [],
+    facts(name, view),
     otherForms(name, shape.kind, view, actions),
   ];
 }

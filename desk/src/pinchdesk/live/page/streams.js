@@ -85,17 +85,20 @@ export class StreamsPart {
     make('td', {}, make('button', {
       type: 'button', class: 'link', 'data-key': `unfold ${stream.row}`, 'aria-expanded': String(open), click: toggle,
       'aria-label': `${segments.length} segments of ${name}`,
-    }, `${open ? '▾' : '▸'} ${segments.length} segments`)),
+    }, `${open ? '▾' : '▸'} ${segments.length} seg.`)),
     make('td', { class: 'number' }, stream.heat), make('td'),
     make('td', {}, this.remover(stream.row, name))),
-    ...open ? segments.map(segment => this.streamRow(segment)) : []];
+    ...open ? segments.map(segment => this.streamRow(segment, ' segment')) : []];
   }
 
-  /** @param {StreamRow} stream */
-  streamRow(stream) {
+  /**
+   * @param {StreamRow} stream
+   * @param {string} [more] how it is told apart
+   */
+  streamRow(stream, more = '') {
     const latent = !stream.target;
     const sign = stream.side === 'hot' ? '→' : '←';
-    return make('tr', { class: stream.side }, make('th', { scope: 'row' },
+    return make('tr', { class: stream.side + more }, make('th', { scope: 'row' },
       make('span', { 'aria-label': stream.side, role: 'img' }, sign), ' ',
       this.cell(stream.row, 'name', stream.name, stream.name, 'name')),
     this.data(stream.row, 'supply', stream.supply, stream.name),
