@@ -128,7 +128,7 @@ class LivePage:
 
     def names(self, selector: str = '#grid [role=button]') -> list[str]:
         """What a screen reader says of the places of the diagram."""
-        return [str(element.get_attribute('aria-label')) for element in self.all(selector)]
+        return self.attributes(selector, 'aria-label')
 
     def piece(self, stream: str, duty: str) -> WebElement:
         """An open piece of a stream, by its duty."""
@@ -144,7 +144,13 @@ class LivePage:
         self.until(lambda: self.all('[data-key=duty]'))
 
     def exchangers(self) -> list[str]:
-        return sorted(str(bar.get_attribute('data-exchanger')) for bar in self.all('[data-exchanger]'))
+        return sorted(self.attributes('[data-exchanger]', 'data-exchanger'))
+
+    def attributes(self, selector: str, name: str) -> list[str]:
+        """An attribute of all elements, as they are at one moment."""
+        return [str(value) for value in self.driver.execute_script(
+            'return [...document.querySelectorAll(arguments[0])].map(found => found.getAttribute(arguments[1]))',
+            selector, name)]
 
     def button(self, text: str, inside: str = 'body') -> WebElement:
         """The first button whose text begins so."""

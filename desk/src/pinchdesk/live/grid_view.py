@@ -182,9 +182,10 @@ def label_of(lines: Lines, name: str, start: Node | None, ended: bool) -> tuple[
 def joints_of(lines: Lines) -> tuple[JointLine, ...]:
     """The upright lines of splits and mixes; both of one parting have its name."""
     made: list[JointLine] = []
-    names = {stream.name: [joint for joint, (name, _) in joint_names(lines.plan).items() if name == stream.name]
+    named = joint_names(lines.plan)
+    names = {stream.name: [joint for joint, (name, _) in named.items() if name == stream.name]
              for stream in lines.plan.case.streams}
-    partings = {joint: parting for joint, (_, parting) in joint_names(lines.plan).items()}
+    partings = {joint: parting for joint, (_, parting) in named.items()}
     for node in lines.course.nodes.values():
         if node.exchanger:
             continue

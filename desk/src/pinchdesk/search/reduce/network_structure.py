@@ -107,9 +107,11 @@ def contracted(edges: list[Edge], start: int, end: int) -> Reduced | None:
     """Without an edge on which nothing stands, where nothing else leaves its start or comes to its end: its two places
     are one."""
     for edge in edges:
+        if edge.course:
+            continue
         alone = sum(any_edge.start == edge.start for any_edge in edges) == 1 \
             or sum(any_edge.end == edge.end for any_edge in edges) == 1
-        if edge.course or not alone:
+        if not alone:
             continue
         left = [Edge(edge.start if other.start == edge.end else other.start,
                      edge.start if other.end == edge.end else other.end, other.size, other.course)
