@@ -53,7 +53,7 @@ export class GridKeys {
     this.goTo(this.present, true);
   }
 
-  /** @param {FocusEvent} event */
+  /** @param {Event} event */
   entered(event) {
     const target = event.target;
     const stop = this.stops.find(found => found.element === target);
@@ -63,6 +63,8 @@ export class GridKeys {
   /** @param {KeyboardEvent} event */
   pressed(event) {
     if (event.ctrlKey || event.metaKey || event.altKey) return;
+    // A window that is not in front hears of no focus.
+    this.entered(event);
     const way = WAYS[event.key];
     const done = way ? this.step(way[0], way[1]) : this.leap(event.key) || this.act(event.key);
     if (done) event.preventDefault();
