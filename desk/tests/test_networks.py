@@ -152,7 +152,7 @@ def test_a_network_is_told_in_the_units_of_its_case(table: str, scale: str, cost
     text = next(folder.iterdir()).read_text()
     assert f'\n# cost {cost} {unit}, floor {cost} {unit}, excess 0 kW\n{times}' in text
     (tmp_path / 'list').write_text(f'case\n{case}\n{EXAMPLES}/tc3.csv\n')
-    how = of_all(('--steps', '5'), ('--seconds', '60'))
+    how = ('--steps', '5')
     done = pinchdesk('many', 'network', str(tmp_path / 'list'), *how, '--form', 'csv')
     first, other = csv.DictReader(io.StringIO(done.out))
     assert (first[f'cost {unit}'], first[f'floor {unit}'], first['excess kW'], first['exchangers']) == (
