@@ -20,7 +20,7 @@ from .prices_word import STUDY, answered_study
 from .shared import (CASE, FILM, NETWORK, RANGE, SHOWN_IN, SITE, USUAL_WORKERS, WORKERS, CaseShown, SweepOptions,
                      completed_case, ended, rounding_told, told_of)
 from .supertarget_word import SupertargetOptions, found_over_difference
-from .utilities_word import BESIDE_CURVE, UtilitiesOptions, found_utilities
+from .utilities_word import BESIDE_CURVE, BesideCurveOptions, found_utilities
 from .word import Answer, Files, NoOptions, Option, Role, Word, WordGroup, feasibility
 
 if TYPE_CHECKING:
@@ -114,7 +114,7 @@ def over_difference(files: Files, options: SweepOptions, tell: Telling = nobody)
     return replace(picture(supertarget_figure(found)), notes=told)
 
 
-def beside_curve(files: Files, options: UtilitiesOptions, tell: Telling = nobody) -> Answer:
+def beside_curve(files: Files, options: BesideCurveOptions, tell: Telling = nobody) -> Answer:
     from ..figures import beside_curve_figure
     found = found_utilities(files, options)
     assert not isinstance(found, Cut), 'a flue gas and a heat pump need no heat flow'
@@ -154,7 +154,7 @@ PARTS = (
     part('grand', 'the grand composite curve, and the utilities on it',
          'examples/three-levels.csv -o grand.svg', (CASE,), CaseShown, curves_by('grand_figure'), (SHOWN_IN,)),
     part('utilities', 'the grand composite curve with a flue gas and a heat pump',
-         'examples/four-stream.csv --flame 1000 --stack 80 -o flue.svg', (CASE,), UtilitiesOptions, beside_curve,
+         'examples/four-stream.csv --flame 1000 --stack 80 -o flue.svg', (CASE,), BesideCurveOptions, beside_curve,
          (*BESIDE_CURVE, SHOWN_IN)),
     part('grid', 'the grid diagram of a network', 'examples/tc3.csv examples/tc3-network.txt -o grid.svg',
          (CASE, NETWORK), GridOptions, grid, (MOST, SHOWN_IN)),

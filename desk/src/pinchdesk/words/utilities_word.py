@@ -2,7 +2,7 @@
 from __future__ import annotations
 
 import re
-from dataclasses import dataclass, fields
+from dataclasses import dataclass, fields, replace
 from fractions import Fraction
 
 from ..analysis.flue_gas import FlueGas
@@ -51,8 +51,8 @@ ASKED = (
 
 
 @dataclass(frozen=True)
-class UtilitiesOptions(CaseShown):
-    """A flue gas, a heat pump, refrigeration, steam turbines: what is asked, as words have it."""
+class BesideCurveOptions(CaseShown):
+    """A flue gas and a heat pump, which have lines of their own beside the curve: what is asked, as words have it."""
 
     flame: str | None = None
     stack: str | None = None
@@ -61,25 +61,13 @@ class UtilitiesOptions(CaseShown):
     pump_from: str | None = None
     pump_to: str | None = None
     pump_efficiency: str | None = None
-    refrigeration: str | None = None
-    isentropic: str | None = None
-    exergetic: str | None = None
-    mains: str | None = None
-    inlet: str | None = None
-
-    @property
-    def is_asked(self) -> bool:
-        """Whether anything is."""
-        return any(getattr(self, field.name) is not None for field in fields(UtilitiesOptions) if field.name != 'units')
 
     def asked(self, case: Case) -> UtilitiesAsked:
         """What is asked of a case; `WordsError` where a number is none, or one is missing that belongs to others."""
         units, contribution = Shown(case.basis).units, Fraction(case.contribution)
         ambient = units.of_tenths(Fraction(250)) if self.ambient is None else \
             temperature_said(self.ambient, '--ambient', units)
-        cold = None if self.refrigeration is None else efficiency_said(self.refrigeration, '--refrigeration')
-        return UtilitiesAsked(ambient, self.flue_of(units, ambient, contribution), self.pump_of(units, contribution),
-                              cold, self.turbines_of(units))
+        return UtilitiesAsked(ambient, self.flue_of(units, ambient, contribution), self.pump_of(units, contribution))
 
     def flue_of(self, units: CaseUnits, ambient: Fraction, contribution: Fraction) -> FlueGas | None:
         if self.flame is None or self.stack is None:
@@ -97,6 +85,27 @@ class UtilitiesOptions(CaseShown):
             return None
         return HeatPump(temperature_said(low, '--pump-from', units), temperature_said(high, '--pump-to', units),
                         efficiency_said(efficiency, '--pump-efficiency'), contribution)
+
+
+@dataclass(frozen=True)
+class UtilitiesOptions(BesideCurveOptions):
+    """Refrigeration and steam turbines too."""
+
+    refrigeration: str | None = None
+    isentropic: str | None = None
+    exergetic: str | None = None
+    mains: str | None = None
+    inlet: str | None = None
+
+    @property
+    def is_asked(self) -> bool:
+        """Whether anything is."""
+        return any(getattr(self, field.name) is not None for field in fields(UtilitiesOptions) if field.name != 'units')
+
+    def asked(self, case: Case) -> UtilitiesAsked:
+        cold = None if self.refrigeration is None else efficiency_said(self.refrigeration, '--refrigeration')
+        turbines = self.turbines_of(Shown(case.basis).units)
+        return replace(super().asked(case), refrigeration=cold, turbines=turbines)
 
     def turbines_of(self, units: CaseUnits) -> Turbines | None:
         if self.isentropic is not None and self.exergetic is not None:
@@ -133,7 +142,7 @@ def inlet_said(text: str, units: CaseUnits) -> Inlet:
     return Inlet(temperature_said(match['temperature'], '--inlet', units), pressure)
 
 
-def found_utilities(files: Files, options: UtilitiesOptions) -> UtilityTargets | Cut:
+def found_utilities(files: Files, options: BesideCurveOptions) -> UtilityTargets | Cut:
     """What is asked of the case of the files."""
     file, pinch = files.one('case'), Pinch()
     with about(case=file.name):
