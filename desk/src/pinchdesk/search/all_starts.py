@@ -32,6 +32,8 @@ STAGED, TINY_BOUND, BOUND, LAST, WAITING = 0.5, 0.02, 0.15, 0.05, 0.1
 # What one job of a tiny case does, and after how many of them without a gain it is done. Its windows are soon known,
 # and what is gained then is gained by combining their networks.
 SHORT_JOBS, IDLE = Pace(steps=100, tries=20, chains=1, grows=False), 26
+# The same where a network may cost more than the least: then there are far more networks of each window.
+ABOVE_JOBS = Pace(steps=200)
 # A network to begin with that has so many times as many exchangers as there are sources is left aside.
 LONG_START = 6.0
 
@@ -61,6 +63,11 @@ class AllStarts:
             self.state = replace(self.state, ended=ended)
             self.tell(self.state)
         return self.state.best
+
+    @property
+    def is_above(self) -> bool:
+        """Whether a network may cost more than the least."""
+        return self.task.most_cost > self.task.floor
 
     def enough(self) -> bool:
         return self.state.best is not None and self.state.best.count <= self.state.bound
@@ -98,7 +105,7 @@ class AllStarts:
     def tick(self, is_tiny: bool) -> str:
         """Windows ticked off, for the rest of the time or for so many steps; why that ended."""
         task = self.task
-        pace = SHORT_JOBS if is_tiny else Pace()
+        pace = Pace() if not is_tiny else ABOVE_JOBS if self.is_above else SHORT_JOBS
         if task.way.steps is not None:
             pace = replace(pace, seconds=inf)
         search = PlantSearch(self.judge, task.uses, task.most_cost, self.take, self.begin(), task.way.seed, pace)
@@ -125,8 +132,9 @@ class AllStarts:
         return why() or TIME_OVER
 
     def begin(self) -> Structure | None:
-        """The structure of the best network so far, where it has one, with what has to stay."""
-        best, wishes = self.state.best, self.task.wishes
+        """The structure of the best network so far, where it has one, with what has to stay; where it may cost more,
+        that of the network of the task, since one of few exchangers has little that can go together."""
+        best, wishes = self.task.best if self.is_above else self.state.best, self.task.wishes
         if best is None or not wishes.may_cross:
             return None
         if best.count > LONG_START * len(self.task.case.sources) and not wishes.kept:
