@@ -5,7 +5,7 @@ import io
 import os
 import subprocess
 import sys
-from collections.abc import Collection, Generator, Iterable, Iterator
+from collections.abc import Callable, Collection, Generator, Iterable, Iterator
 from contextlib import chdir, redirect_stderr, redirect_stdout
 from dataclasses import dataclass
 from pathlib import Path
@@ -63,6 +63,11 @@ def tried(few: int, many: int) -> settings:
     return settings(max_examples=of_all(few, many))
 
 
+Chooses = Callable[[pytest.Config, list[pytest.Item]], None]
+# For before pytest-xdist; it comes without types.
+FIRST_HOOK: Callable[[Chooses], Chooses] = pytest.hookimpl(tryfirst=True)
+
+
 def pytest_addoption(parser: pytest.Parser) -> None:
     parser.addoption('--all', action='store_true', help='the tests that are marked as long too, and more examples')
 
@@ -71,7 +76,7 @@ def pytest_configure(config: pytest.Config) -> None:
     settings.load_profile('all' if config.getoption('--all') else 'desk')
 
 
-@pytest.hookimpl(tryfirst=True)
+@FIRST_HOOK
 def pytest_collection_modifyitems(config: pytest.Config, items: list[pytest.Item]) -> None:
     """A file is for one process of pytest-xdist, so that no other one loads or makes what its tests share; with --all
     that would wait for the longest file. A long test is for --all, and for whoever names it."""

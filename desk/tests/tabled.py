@@ -2,6 +2,7 @@
 from __future__ import annotations
 
 import io
+from collections.abc import Sequence
 
 import openpyxl
 import pytest
@@ -28,7 +29,7 @@ def refusal(text: str | bytes, wanted: Wanted = TEN) -> str:
     return fault.value.text
 
 
-def workbook(rows: list[list[object]], **sheets: list[list[object]]) -> bytes:
+def workbook(rows: Sequence[Sequence[object]], **sheets: Sequence[Sequence[object]]) -> bytes:
     book = openpyxl.Workbook()
     page = book.active
     page.title = 'Streams'

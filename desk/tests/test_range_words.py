@@ -28,8 +28,8 @@ STEAM = f'{HEAD}hot;H;300;60;10;;\nheater;HP;310;;;;35\ncooler;steam;100;200;4,2
         'cooler;steam;200;200;;1940;\ncooler;steam;200;250;2,5;;\ncooler;water;20;30;;;0,5\n'
 
 
-def case_of(table: str, difference: str = '10', **options: str) -> Case:
-    asked = CaseOptions(difference, **options).wanted
+def case_of(table: str, difference: str = '10', units: str = 'SI', ranges: str = 'stream') -> Case:
+    asked = CaseOptions(difference, units=units, ranges=ranges).wanted
     return converted(Pinch(), TextFile('t.csv', table.encode()), asked).case
 
 
@@ -69,7 +69,7 @@ def test_a_utility_in_segments_is_one_stream(pinch: Pinch) -> None:
     case = case_of(STEAM)
     whole, = (stream for stream in whole_streams(case) if stream.name == 'steam')
     assert (whole.supply, whole.target, len(case.basis.segments[0].segments)) == (1000, 2500, 3)
-    first, boiling, last = (case.source(f'steam-{at}') for at in (1, 2, 3))
+    first, boiling, last = (stream for stream in case.streams if stream.name.startswith('steam-'))
     assert abs(boiling.load * 420 - first.cp * 1_940_000) <= 420 and abs(last.cp * 420 - first.cp * 250) <= 420
     assert read_case(print_case(case)) == case and pinch.targets(case).cold == 0
 
@@ -93,8 +93,9 @@ def test_a_range_in_the_units_of_its_table_is_whole_there(pinch: Pinch) -> None:
     table = 'Kind;Name;Supply;Target;CP\n;;°F;°F;Btu/(h °F)\nhot;H;350;160;1000\ncold;C;100;250;500\n' \
             'cooler;CW;70;90;\n'
     case = case_of(table, '18 °F', units='table')
-    water = case.source('CW')
-    assert (water.supply, water.target, case.basis.units.temperature) == (700, 900, '°F')
+    water, = (stream for stream in case.streams if stream.name == 'CW')
+    assert (water.supply, water.target) == (700, 900)
+    assert case.basis.units is not None and case.basis.units.temperature == '°F'
     assert pinch.targets(case).cold == 0 and read_case(print_case(case)) == case
 
 

@@ -195,12 +195,16 @@ def test_the_least_is_found_whatever_the_bounds(first: int, more: int, least: in
     assert least_that(lambda number: number >= least, first, last) == min(max(first, least), last)
 
 
-utilities_in_rows = some.builds(
+utilities_in_rows: some.SearchStrategy[RangedUtility] = some.builds(
     RangedUtility, names, some.integers(-10 ** 6, 10 ** 6), some.integers(1, 10 ** 5), some.none() | some.builds(
         lambda offer, more: Lacking(offer + more, offer), some.integers(0, 10 ** 12), some.integers(1, 10 ** 9)))
 
 
-@given(some.lists(utilities_in_rows, max_size=4, unique_by=lambda utility: utility.name))
+def name_of(utility: RangedUtility) -> str:
+    return utility.name
+
+
+@given(some.lists(utilities_in_rows, max_size=4, unique_by=name_of))
 def test_what_is_printed_of_them_is_read_again(utilities: list[RangedUtility]) -> None:
     basis, read = Basis(ranges=tuple(utilities)), Basis()
     for row in basis_rows(basis):

@@ -61,7 +61,8 @@ def test_whichever_worker_is_done_first_the_same_is_found(pinch: Pinch, name: st
     alone = Row(pinch, name, 3)
     networks = alone.run(1, min)
     assert networks and alone.search.taken == JOBS
-    for first in (max, Random(1).choice):
+    firsts: tuple[Callable[[list[int]], int], ...] = (max, Random(1).choice)
+    for first in firsts:
         again = Row(pinch, name, 3)
         assert again.run(4, first) == networks and again.search.taken == JOBS
 
