@@ -86,9 +86,10 @@ def open_desk(case: Path, network: Path | None = None, *more: str) -> OpenDesk:
 
 
 def copied(folder: Path, name: str = 'tc3') -> Path:
-    """The case of an example in a folder, with its published network beside it."""
-    for ending in ('.csv', '-network.txt'):
-        shutil.copy(EXAMPLES / f'{name}{ending}', folder)
+    """The case of an example in a folder, with its published network beside it where it has one."""
+    for file in (EXAMPLES / f'{name}.csv', EXAMPLES / f'{name}-network.txt'):
+        if file.exists():
+            shutil.copy(file, folder)
     return folder / f'{name}.csv'
 
 
