@@ -275,7 +275,7 @@ def test_a_gesture_is_painted_soon(page: LivePage) -> None:
 
 
 @pytest.mark.long
-def test_an_end_is_moved_by_keys_and_by_a_drag(page: LivePage, desk: OpenDesk) -> None:
+def test_an_end_and_the_whole_are_moved_by_keys_and_by_a_drag(page: LivePage, desk: OpenDesk) -> None:
     """Each place with what it costs before it is taken."""
     page.place(('S1', '120'), ('S3', '137.5'))
     page.driver.execute_script('arguments[0].focus()', page.exchanger('E1'))
@@ -290,6 +290,12 @@ def test_an_end_is_moved_by_keys_and_by_a_drag(page: LivePage, desk: OpenDesk) -
     page.until(lambda: 'move this end of E1 here' in page.text('#hint') and 'costs' in page.text('#hint'))
     ActionChains(page.driver).release().perform()
     page.until(lambda: 'exchanger E1 S1 S3 90000' in desk.network.read_text(encoding='utf-8'))
+    page.until(lambda: any('E1, S1 to S3, 90 kW' in name for name in page.names()))
+    page.drag(page.one('[data-exchanger=E1] .touch'), page.piece('S1', '60'), drop=False)
+    page.until(lambda: 'move E1 here, on S1 and S3' in page.text('#hint') and 'costs nothing' in page.text('#hint'))
+    assert page.all('.piece.partner.cold') and page.all('.piece.partner.hot')
+    ActionChains(page.driver).release().perform()
+    page.until(lambda: any('E1, S1 to S3, 60 kW, below the pinch' in name for name in page.names()))
     assert not page.errors()
 
 

@@ -15,6 +15,7 @@ from pinchdesk.formats.network import read_network
 from pinchdesk.live import gestures, serving
 from pinchdesk.live.gestures import NotDone
 from pinchdesk.live.judgement import Whole, asked_whole, judged_stand, reachable
+from pinchdesk.live.moving import move_end, own_pairs
 from pinchdesk.live.network_lines import TextLayout, begun_plan, read_plan, write_plan
 from pinchdesk.live.pieces import HandPlan, cut
 from pinchdesk.live.seats import seated
@@ -24,6 +25,7 @@ from pinchdesk.program.run import Pinch
 from pinchdesk.program.verdicts import Accepted, TooFine
 from pinchdesk.search.reduce.structure import throughs
 
+KINDS = ('place', 'place', 'take', 'grow', 'duty', 'finish', 'split', 'shift', 'move')
 WALKED = ('tc3', 'four-stream', 'own-contributions', 'two-reactors-steam', 'preheater', 'column')
 
 
@@ -94,7 +96,7 @@ def test_a_walk_of_gestures_keeps_what_holds(name: str, data: some.DataObject) -
     plan, layout = network_of(name) if data.draw(some.booleans(), 'from the network') else \
         (begun_plan(whole.case), TextLayout())
     for _ in range(data.draw(some.integers(1, 6), 'steps')):
-        kind = data.draw(some.sampled_from(['place', 'place', 'take', 'grow', 'duty', 'finish', 'split', 'shift']))
+        kind = data.draw(some.sampled_from(KINDS))
         try:
             after, named, shifted = done(plan, kind, whole, data)
         except NotDone:
@@ -139,6 +141,13 @@ def done(plan: HandPlan, kind: str, whole: Whole, data: some.DataObject) -> tupl
         return gestures.take_away(plan, exchanger), (exchanger,), False
     if kind == 'grow':
         return gestures.grown(plan, exchanger, whole.pinches), (exchanger,), False
+    if kind == 'move':
+        pieces = cut(plan, whole.pinches)
+        pairs = [*((piece, None) for piece in pieces.open), *own_pairs(pieces, exchanger)]
+        if not pairs:
+            raise NotDone('nothing open')
+        piece, other = data.draw(some.sampled_from(pairs))
+        return move_end(pieces, exchanger, piece, other, whole.pinches), (exchanger,), False
     part = Fraction(data.draw(some.integers(1, 15)), 10)
     return gestures.with_duty(plan, exchanger, plan.duties[exchanger] * part, whole.pinches), (exchanger,), False
 

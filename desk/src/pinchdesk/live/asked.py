@@ -16,6 +16,7 @@ from .case_lines import added, removed, with_cell, with_difference
 from .gestures import NotDone
 from .known import Known, Snapshot, begun, completed_live
 from .mending import mended
+from .moving import move_end, moved_told
 from .network_lines import write_plan
 from .pieces import HandPlan
 from .seats import Seat
@@ -175,8 +176,9 @@ def join(known: Known, fields: Fields) -> tuple[HandPlan, str]:
 
 def move(known: Known, fields: Fields) -> tuple[HandPlan, str]:
     name, piece = fields.text('exchanger'), fields.text('piece')
-    made = gestures.move_end(planned(known, True), name, piece)
-    return made, f'{name}: {"–".join(made.pairs[name])}'
+    pinches = known.whole.pinches if known.whole else ()
+    made = move_end(planned(known, True), name, piece, fields.maybe('other'), pinches)
+    return made, moved_told(made, name)
 
 
 def rename(known: Known, fields: Fields) -> tuple[HandPlan, str]:

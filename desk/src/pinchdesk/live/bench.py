@@ -227,7 +227,8 @@ class Bench:
                 return GestureDone(self.shown(), stale=True)
             known = self.now
         try:
-            return moves_of(self.knowing.pinch, known.cut_plan(), exchanger, known.reach) if known.plan else ()
+            pinches = known.whole.pinches if known.whole else ()
+            return moves_of(self.knowing.pinch, known.cut_plan(), exchanger, known.reach, pinches) if known.plan else ()
         except NotDone as fault:
             return GestureDone(self.view(), Refusal(str(fault)))
 

@@ -302,25 +302,6 @@ def join(plan: HandPlan, joint: str) -> HandPlan:
     return settled(changed(plan, {stream: with_parting(plan.structure.courses[stream], parting, course)}))
 
 
-def move_end(plan: HandPlan, exchanger: str, piece: str) -> HandPlan:
-    """A plan that is cut in which the end of an exchanger on the side of a piece is moved to there, with its duty or as
-    much of it as goes there. The other end keeps its place, but for what it has less then."""
-    side = plan.piece(open_piece(plan, piece)).stream.side
-    if len(plan.streams_of(known(plan, exchanger))) < 2:
-        raise NotDone(f'{exchanger} is no exchanger between two streams.', ('exchanger', exchanger))
-    if len(joined_with(plan, exchanger)) > 1:
-        raise NotDone(f'{exchanger} goes on across a kink: take it away, and place it anew.', ('exchanger', exchanger))
-    without, left = lifted(plan, exchanger)
-    cleared = without_idle_lanes(without, frozenset((left[side],)))
-    without = cleared if piece in cleared.pairs else without
-    hot, cold = (piece, left[Side.COLD]) if side is Side.HOT else (left[Side.HOT], piece)
-    found = list(seatings(without, hot, cold, plan.duties[exchanger]))
-    if not found:
-        raise NotDone(f'{exchanger} would come too close there, or its streams may not exchange heat.',
-                      ('exchanger', exchanger), ('piece', piece))
-    return seated(without, max(found, key=lambda chosen: chosen.duty), exchanger)
-
-
 def rename(plan: HandPlan, exchanger: str, name: str) -> HandPlan:
     """An exchanger with another name."""
     known(plan, exchanger)

@@ -5,7 +5,7 @@ from __future__ import annotations
 from collections.abc import Iterator, Sequence
 from concurrent.futures import ThreadPoolExecutor
 from contextlib import suppress
-from dataclasses import dataclass
+from dataclasses import dataclass, replace
 from fractions import Fraction
 
 from ..analysis.follow import PinchPoint
@@ -13,9 +13,10 @@ from ..formats.case import Side
 from ..formats.shown import Shown
 from ..formats.whole_streams import whole_name
 from ..program.run import Pinch
-from .gestures import NotDone, move_end, open_piece
+from .gestures import NotDone, open_piece
 from .judgement import Reachable, money, reachable
 from .kinks import placed_along
+from .moving import move_end, own_pairs
 from .pieces import HandPlan, utilities_for
 from .seats import Seat, Seated, seatings
 from .view import Offer
@@ -65,37 +66,53 @@ def offers_of(pinch: Pinch, plan: HandPlan, piece: str, before: Reachable | None
     return tuple(told(plan, piece, offer, before) for offer in offers)
 
 
-def moves_of(pinch: Pinch, plan: HandPlan, exchanger: str, before: Reachable | None) -> tuple[Offer, ...]:
-    """Where the ends of an exchanger of a plan that is cut can be moved to, the best first: what costs least, then what
-    has the larger duty."""
-    made = {piece: moved for piece in plan.open for moved in moved_to(plan, exchanger, piece)}
+@dataclass(frozen=True)
+class PricedMove:
+    """A move of one end of an exchanger, or of both, with what can be reached then; None where that is not known."""
+
+    piece: str
+    other: str | None
+    made: HandPlan
+    after: Reachable | None = None
+
+
+def moves_of(pinch: Pinch, plan: HandPlan, exchanger: str, before: Reachable | None,
+             pinches: Sequence[PinchPoint] = ()) -> tuple[Offer, ...]:
+    """Where the ends of an exchanger of a plan that is cut can be moved to, one of them or along its streams both, the
+    best first: what costs least, then what has the larger duty."""
+    goals: list[tuple[str, str | None]] = [*((piece, None) for piece in plan.open), *own_pairs(plan, exchanger)]
+    moves = [move for piece, other in goals for move in moved_to(plan, exchanger, piece, other, pinches)]
     with ThreadPoolExecutor(ASKED_AT_ONCE) as pool:
-        after = dict(zip(made, pool.map(lambda moved: reachable(pinch, moved), made.values())))
+        after = list(pool.map(lambda move: reachable(pinch, move.made), moves))
+    moves = [replace(move, after=found) for move, found in zip(moves, after)]
 
-    def order(piece: str) -> tuple[object, ...]:
-        cost = cost_of(after[piece], before)
-        return cost is None, cost or Fraction(0), paid_more(after[piece], before), -made[piece].duties[exchanger]
+    def order(move: PricedMove) -> tuple[object, ...]:
+        cost = cost_of(move.after, before)
+        return (cost is None, cost or Fraction(0), paid_more(move.after, before), -move.made.duties[exchanger],
+                move.other is not None)
 
-    return tuple(told_move(plan, exchanger, piece, made[piece].duties[exchanger], after[piece], before)
-                 for piece in sorted(made, key=order))
+    return tuple(told_move(plan, exchanger, move, before) for move in sorted(moves, key=order))
 
 
-def moved_to(plan: HandPlan, exchanger: str, piece: str) -> Iterator[HandPlan]:
-    """The plan with an end of an exchanger at a piece; none where it cannot stand there."""
+def moved_to(plan: HandPlan, exchanger: str, piece: str, other: str | None, pinches: Sequence[PinchPoint],
+             ) -> Iterator[PricedMove]:
+    """The plan with ends of an exchanger at these pieces; none where it cannot stand there."""
     with suppress(NotDone):
-        yield move_end(plan, exchanger, piece)
+        yield PricedMove(piece, other, move_end(plan, exchanger, piece, other, pinches))
 
 
-def told_move(plan: HandPlan, exchanger: str, piece: str, duty: Fraction, after: Reachable | None,
-              before: Reachable | None) -> Offer:
-    """The move of an end in words: from which stream, to which piece."""
-    shown, reach = Shown(plan.case.basis), plan.piece(piece)
-    stream = whole_name(plan.case, reach.stream.name)
-    ends = ' to '.join(shown.temperature(end) for end in (reach.inlet, reach.outlet))
-    price, free = priced(shown, after, before)
+def told_move(plan: HandPlan, exchanger: str, move: PricedMove, before: Reachable | None) -> Offer:
+    """A move in words: to which streams, and to where on them."""
+    shown, made = Shown(plan.case.basis), move.made
+    streams = [plan.piece(piece).stream for piece in (move.piece, move.other) if piece is not None]
+    ends = ' and '.join(' to '.join(map(shown.temperature, made.ends(exchanger, stream.side))) for stream in streams)
+    duty, full = made.duties[exchanger], plan.duties[exchanger]
+    price, free = priced(shown, move.after, before)
     words = f'{ends} {shown.temperature_unit}, {shown.heat(duty)} {shown.heat_unit}'
-    return Offer(piece, 'piece', stream, shown.heat(duty), words, price, free, duty == plan.duties[exchanger],
-                 {'kind': 'move', 'exchanger': exchanger, 'piece': piece})
+    gesture = {'kind': 'move', 'exchanger': exchanger, 'piece': move.piece}
+    return Offer(move.piece, 'piece', ' and '.join(whole_name(plan.case, stream.name) for stream in streams),
+                 shown.heat(duty), words if duty == full else f'{words} of {shown.heat(full)}', price, free,
+                 duty == full, gesture if move.other is None else {**gesture, 'other': move.other})
 
 
 def cost_of(after: Reachable | None, before: Reachable | None) -> Fraction | None:

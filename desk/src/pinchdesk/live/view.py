@@ -23,8 +23,8 @@ What the page asks, below `/TOKEN/`:
 - `GET history` answers `[StepKept, ..]`. `POST history {"version": n, "steps": [{text, case, network}, ..], "at": n}`
   gives a desk that was just opened the steps of one that ended, where that is what both files hold; it answers as a
   gesture does.
-- `POST moves {"version": n, "exchanger": name}` answers `{"offers": [Offer, ..]}`: where its ends can be moved to, the
-  best first. The same for 409.
+- `POST moves {"version": n, "exchanger": name}` answers `{"offers": [Offer, ..]}`: where its ends can be moved to, one
+  or both (`other` of the gesture), the best first. The same for 409.
 - WebSocket `changes`: a JSON number, the version, whenever it has changed (and once at the beginning).
 
 All POSTs want `Content-Type: application/json`. Whatever is wrong with the address is 404.
@@ -40,7 +40,8 @@ the heat unit of the case; `?` may be left out):
 - `split {piece, share?}`: a lane of this share in percent (50 unless said) beside the piece; `shares {joint, shares}`:
   the shares of all lanes of a joint in percent, as texts; `join {joint}`: the lanes of a joint, without exchangers but
   for one lane, are one again.
-- `move {exchanger, piece}`: the end of the exchanger on the side of the piece is moved to there.
+- `move {exchanger, piece, other?}`: the end of the exchanger on the side of the piece is moved to there, and the other
+  end to another piece.
 - `rename {exchanger, name}`. `hold {}`: a network that can be changed by its text alone becomes one for the hand.
 - `shift {way, heat}` along a way, `break {way}`: so far that its smallest exchanger goes.
 - `difference {difference}`: the least approach, as the slider has it.

@@ -33,6 +33,8 @@ export class Actions {
     /** @type {Promise<Offer[]> | null} */
     this.asked = null;
     this.askedAt = '';
+    /** @type {Promise<Offer[]>} */
+    this.movesAsked = Promise.resolve([]);
     /** @type {() => Promise<boolean>} asks where the case of a table is kept */
     this.keeper = () => Promise.resolve(false);
   }
@@ -129,7 +131,7 @@ export class Actions {
     const still = chosen && isThere(view, chosen) ? chosen : null;
     this.store.set({
       view, chosen: still, offers: same ? this.state.offers : null, moves: same ? this.state.moves : null, way: null,
-      partner: null,
+      partners: [],
       waysAsked: same ? this.state.waysAsked : true, ...more,
     });
     if (same) return;
@@ -164,7 +166,7 @@ export class Actions {
   choose(chosen) {
     const { chosen: before } = this.state;
     if (chosen && before && chosen.kind === before.kind && chosen.name === before.name) return;
-    this.store.set({ chosen, moves: null, partner: null, refusal: null });
+    this.store.set({ chosen, moves: null, partners: [], refusal: null });
     if (chosen && chosen.kind === 'piece') this.offer(chosen.name);
   }
 
@@ -201,20 +203,32 @@ export class Actions {
   }
 
   /**
-   * Where the ends of an exchanger can be moved to.
+   * Where the ends of an exchanger can be moved to, asked once for each version.
    * @param {string} exchanger
+   * @returns {Promise<Offer[]>}
    */
-  async findMoves(exchanger) {
-    const { moves, view: { version } } = this.state;
-    if (moves && moves.exchanger === exchanger) return;
+  findMoves(exchanger) {
+    const { moves } = this.state;
+    if (moves && moves.exchanger === exchanger) return this.movesAsked;
     this.store.set({ moves: { exchanger, list: null } });
+    this.movesAsked = this.last.then(() => this.askMoves(exchanger));
+    return this.movesAsked;
+  }
+
+  /**
+   * @param {string} exchanger
+   * @returns {Promise<Offer[]>}
+   */
+  async askMoves(exchanger) {
+    const version = this.state.view.version;
     try {
-      await this.last;
       const list = await this.talk.moves(version, exchanger) ?? [];
       const { moves: now, view } = this.state;
       if (now?.exchanger === exchanger && view.version === version) this.store.set({ moves: { exchanger, list } });
+      return list;
     } catch (cause) {
       this.failed(cause);
+      return [];
     }
   }
 

@@ -1,6 +1,7 @@
 // The panel of what is chosen in the diagram: the partners of an open piece, an exchanger, a parting.
 
 import { fill, keyed, make } from './dom.js';
+import { partnersOf } from './grid_marks.js';
 import { changed } from './state.js';
 
 /** @typedef {import('./actions.js').Actions} Actions */
@@ -167,8 +168,8 @@ function title(text, more = '') {
  * @param {() => unknown} taken
  */
 function offerButton(offer, key, actions, taken) {
-  const point = () => actions.store.set({ partner: offer.partner });
-  const leave = () => actions.store.set({ partner: null });
+  const point = () => actions.store.set({ partners: partnersOf(offer) });
+  const leave = () => actions.store.set({ partners: [] });
   return make('button', {
     type: 'button', class: `offer ${offer.free ? 'free' : 'dear'}`, 'data-key': key, click: taken,
     pointerenter: point, focus: point, pointerleave: leave, blur: leave,
@@ -255,12 +256,12 @@ function movesContent(name, state, actions) {
     }, 'move an end …')];
   }
   return [
-    make('h3', { 'data-key': 'moves', tabindex: -1 }, 'Move an end to'),
+    make('h3', { 'data-key': 'moves', tabindex: -1 }, 'Move an end, or both, to'),
     list === null ? make('p', { class: 'pale' }, 'Looking for places …')
-      : list.length ? make('ol', { class: 'offers', 'aria-label': 'places for an end, the best first' },
+      : list.length ? make('ol', { class: 'offers', 'aria-label': 'places for its ends, the best first' },
         ...list.map((offer, at) => make('li', {}, offerButton(offer, `move ${at}`, actions,
           () => actions.do(offer.gesture)))))
-        : make('p', {}, 'Neither end can stand at another open piece.'),
+        : make('p', {}, 'No end can stand at another open piece.'),
   ];
 }
 

@@ -1,7 +1,8 @@
-// Dragging in the grid diagram, by mouse, pen or finger: an open piece to its partner, or an end of an exchanger to a
-// piece of another stream. What a drop would cost stands beside the pointer before it is done.
+// Dragging in the grid diagram, by mouse, pen or finger: an open piece to its partner, an end of an exchanger or the
+// whole of it to another piece. What a drop would cost stands beside the pointer before it is done.
 
 import { draw, make, part } from './dom.js';
+import { partnersOf } from './grid_marks.js';
 
 /** @typedef {import('./contract.js').Offer} Offer */
 /** @typedef {import('./grid.js').GridPart} GridPart */
@@ -13,7 +14,7 @@ const EDGE = 36, STEP = 9;
 
 /**
  * @typedef {object} Pull
- * @property {'piece' | 'exchanger'} kind
+ * @property {'piece' | 'end' | 'whole'} kind
  * @property {string} name
  * @property {string} side
  * @property {{x: number, y: number}} from where it began, in the picture
@@ -43,18 +44,25 @@ export class Drag {
     return this.pull && this.pull.moving && this.pull.kind === 'piece' ? this.pull.name : null;
   }
 
+  /** The exchanger of which an end, or the whole, is being dragged. */
+  get exchanger() {
+    return this.pull && this.pull.moving && this.pull.kind !== 'piece' ? this.pull.name : null;
+  }
+
   /** @param {PointerEvent} event */
   down(event) {
     const target = event.target instanceof Element ? event.target : null;
     const piece = target?.closest('[data-piece]'), ending = target?.closest('[data-end]');
-    const shape = (piece ?? ending)?.querySelector('rect'), { picture } = this.part;
-    if (event.button !== 0 || !picture || !shape) return;
-    const exchanger = ending?.closest('[data-exchanger]');
+    const exchanger = target?.closest('[data-exchanger]'), { picture } = this.part;
+    if (event.button !== 0 || !picture || !piece && !exchanger) return;
+    const shape = (piece ?? ending)?.querySelector('rect'), at = { x: event.clientX, y: event.clientY };
+    // A finger on a bar moves the page: bars are everywhere.
+    if (!shape && event.pointerType === 'touch') return;
     this.pull = {
-      kind: piece ? 'piece' : 'exchanger',
+      kind: piece ? 'piece' : ending ? 'end' : 'whole',
       name: piece?.getAttribute('data-piece') ?? exchanger?.getAttribute('data-exchanger') ?? '',
       side: piece ? (piece.classList.contains('hot') ? 'hot' : 'cold') : ending?.getAttribute('data-end') ?? '',
-      from: middleOf(shape), down: { x: event.clientX, y: event.clientY }, now: { x: event.clientX, y: event.clientY },
+      from: shape ? middleOf(shape) : inside(picture, at), down: at, now: at,
       pointer: event.pointerId, moving: false, line: null, target: null,
     };
     if (piece) this.part.actions.offer(this.pull.name);
@@ -81,7 +89,7 @@ export class Drag {
       picture.append(pull.line);
       picture.classList.add('dragging');
       requestAnimationFrame(this.roll);
-      if (pull.kind === 'exchanger') this.part.actions.findMoves(pull.name);
+      if (pull.kind !== 'piece') this.part.actions.findMoves(pull.name);
       this.part.mark(this.part.actions.state);
     }
     this.aim({ x: event.clientX, y: event.clientY });
@@ -113,10 +121,8 @@ export class Drag {
       target?.classList.add('aimed');
       pull.target = target;
     }
-    const frame = picture.getBoundingClientRect();
-    const free = { x: at.x - frame.left, y: at.y - frame.top };
     const shape = target?.matches('[data-piece]') ? target.querySelector('rect') : null;
-    const to = shape ? middleOf(shape) : free;
+    const to = shape ? middleOf(shape) : inside(picture, at);
     pull.line.setAttribute('x2', String(to.x));
     pull.line.setAttribute('y2', String(to.y));
     pull.now = at;
@@ -124,7 +130,8 @@ export class Drag {
   }
 
   /**
-   * Where a drop would go: a piece or a utility of the other side; for an end of an exchanger a piece of its side.
+   * Where a drop would go: a piece or a utility of the other side; for an end of an exchanger a piece of its side, for
+   * the whole of it any piece.
    * @param {number} x
    * @param {number} y
    */
@@ -133,8 +140,8 @@ export class Drag {
     const found = document.elementFromPoint(x, y)?.closest('[data-piece], [data-utility]');
     if (!pull || !found || !this.part.panel.contains(found)) return null;
     const side = found.classList.contains('hot') ? 'hot' : 'cold';
-    if (pull.kind === 'exchanger') return found.matches('[data-piece]') && side === pull.side ? found : null;
-    return side === pull.side ? null : found;
+    if (pull.kind === 'piece') return side === pull.side ? null : found;
+    return found.matches('[data-piece]') && (pull.kind === 'whole' || side === pull.side) ? found : null;
   }
 
   /** Beside the pointer, in words, what would come of a drop; again when costs have come. */
@@ -154,14 +161,28 @@ export class Drag {
     if (!pull || !pull.target) return [];
     const partner = nameOf(pull.target);
     const { offers, moves } = this.part.actions.state;
-    if (pull.kind === 'exchanger') {
+    if (pull.kind !== 'piece') {
       if (!moves || moves.exchanger !== pull.name || !moves.list) return ['…'];
-      const move = moves.list.find(found => found.partner === partner);
-      return move ? [`move this end of ${pull.name} here`, move.words, move.cost] : ['this end cannot stand here'];
+      const move = moveTo(pull, partner, moves.list), whole = move && partnersOf(move).length > 1;
+      if (!move) return [pull.kind === 'end' ? 'this end cannot stand here' : `${pull.name} cannot stand here`];
+      return [pull.kind === 'end' ? `move this end of ${pull.name} here`
+        : whole ? `move ${pull.name} here, on ${move.stream}` : `move ${pull.name} here, its other end stays`,
+      move.words, move.cost];
     }
     if (!offers || offers.piece !== pull.name || !offers.list) return ['…'];
     const offer = offers.list.find(found => found.partner === partner);
     return offer ? [offer.words, offer.cost] : ['no heat can go from one to the other here'];
+  }
+
+  /**
+   * The pieces on which a drop can move what is dragged: an end those of its side.
+   * @param {Offer[]} list
+   * @returns {string[]}
+   */
+  goals(list) {
+    const pieces = this.part.actions.state.view.grid?.pieces ?? [], { pull } = this;
+    if (!pull || pull.kind !== 'end') return list.flatMap(partnersOf);
+    return pieces.filter(piece => piece.side === pull.side && moveTo(pull, piece.id, list)).map(piece => piece.id);
   }
 
   /** @param {PointerEvent} event */
@@ -178,8 +199,10 @@ export class Drag {
     setTimeout(() => { this.justEnded = false; }, 50);
     if (!moving || !target) return;
     const partner = nameOf(target), { actions } = this.part;
-    if (pull.kind === 'exchanger') {
-      await actions.do({ kind: 'move', exchanger: pull.name, piece: partner });
+    if (pull.kind !== 'piece') {
+      // As with a place: a drop waits for what it costs.
+      const move = moveTo(pull, partner, await actions.findMoves(pull.name));
+      await actions.do(move ? move.gesture : { kind: 'move', exchanger: pull.name, piece: partner });
       return;
     }
     // The place that costs least is another one where costs are not known yet: so a drop waits for them.
@@ -207,9 +230,30 @@ export class Drag {
   }
 }
 
+/**
+ * The move that a drop on a piece does: the best one, of an end one of it alone.
+ * @param {Pull} pull
+ * @param {string} piece
+ * @param {Offer[]} list
+ */
+function moveTo(pull, piece, list) {
+  const fitting = pull.kind === 'end' ? list.filter(move => partnersOf(move).length === 1) : list;
+  return fitting.find(move => partnersOf(move).includes(piece));
+}
+
 /** @param {Element} target */
 function nameOf(target) {
   return target.getAttribute('data-piece') ?? target.getAttribute('data-utility') ?? '';
+}
+
+/**
+ * A place of the window in the picture.
+ * @param {SVGSVGElement} picture
+ * @param {{x: number, y: number}} at
+ */
+function inside(picture, at) {
+  const frame = picture.getBoundingClientRect();
+  return { x: at.x - frame.left, y: at.y - frame.top };
 }
 
 /** @param {SVGRectElement} shape */

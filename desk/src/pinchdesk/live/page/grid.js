@@ -4,7 +4,7 @@ import { draw, fill, keyed, lettersChanged, make } from './dom.js';
 import { Geometry } from './geometry.js';
 import { exchangerShape, jointShape, lineShape, nameShape, pieceShape, pinchShape, rowShape } from './grid_shapes.js';
 import { GridKeys } from './grid_keys.js';
-import { chosenAt, markOne } from './grid_marks.js';
+import { chosenAt, markOne, partnersOf } from './grid_marks.js';
 import { Drag } from './drag.js';
 import { viewChanged } from './state.js';
 
@@ -143,14 +143,17 @@ export class GridPart {
     const { picture } = this, places = this.panel.querySelector('.wide');
     if (!picture || !places) return;
     const { chosen, refusal, view, offers, moves, way } = state;
-    const matched = this.drag.piece ?? (chosen && chosen.kind === 'piece' ? chosen.name : null);
-    const list = matched !== null && offers && offers.piece === matched ? offers.list : moves?.list;
-    const partners = new Set((list ?? []).map(offer => offer.partner));
+    const dragged = this.drag.piece, still = dragged === null && chosen;
+    const mover = this.drag.exchanger ?? (still && still.kind === 'exchanger' ? still.name : null);
+    const matched = mover ? null : dragged ?? (still && still.kind === 'piece' ? still.name : null);
+    const list = mover ? moves && moves.exchanger === mover && moves.list
+      : matched !== null && offers && offers.piece === matched && offers.list;
+    const partners = new Set(mover ? this.drag.goals(list || []) : (list || []).flatMap(partnersOf));
     places.classList.toggle('matching', partners.size > 0);
     const wrong = [...(refusal ? refusal.places : []), ...view.verdict.places];
     const legs = new Map(way ? way.legs.map(leg => [leg.exchanger, leg.gains]) : []);
     places.classList.toggle('pointing', legs.size > 0);
-    const marks = { chosen, matched, partners, pointed: state.partner, places: wrong, legs };
+    const marks = { chosen, matched, partners, pointed: state.partners, places: wrong, legs };
     for (const element of places.querySelectorAll(MARKED)) {
       if (element instanceof SVGElement) markOne(element, marks);
     }

@@ -1,6 +1,7 @@
 // What is marked in the grid diagram: what is chosen, pointed at, wrong, and who may be a partner.
 
 /** @typedef {import('./contract.js').Mark} Mark */
+/** @typedef {import('./contract.js').Offer} Offer */
 /** @typedef {import('./state.js').Chosen} Chosen */
 
 /**
@@ -17,11 +18,21 @@ export function chosenAt(target) {
 }
 
 /**
+ * The piece or the utility of an offer; where both ends are moved, both pieces.
+ * @param {Offer} offer
+ * @returns {string[]}
+ */
+export function partnersOf(offer) {
+  const { other } = offer.gesture;
+  return typeof other === 'string' ? [offer.partner, other] : [offer.partner];
+}
+
+/**
  * @typedef {object} Marks
  * @property {Chosen | null} chosen
  * @property {string | null} matched the piece whose partners are shown
  * @property {Set<string>} partners
- * @property {string | null} pointed
+ * @property {string[]} pointed
  * @property {Mark[]} places
  * @property {Map<string, boolean>} legs
  */
@@ -45,6 +56,6 @@ export function markOne(element, marks) {
     const partner = marks.partners.has(name);
     element.classList.toggle('partner', partner);
     element.classList.toggle('pale', marks.partners.size > 0 && !partner && name !== marks.matched);
-    element.classList.toggle('pointed', marks.pointed === name);
+    element.classList.toggle('pointed', marks.pointed.includes(name));
   }
 }

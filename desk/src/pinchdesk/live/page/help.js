@@ -9,7 +9,7 @@ const KEYS = [
   ['Home, End', 'in the diagram: to the first open piece, to the last place'],
   ['Enter', 'on an open piece: its partners, the best first; on an exchanger: its duty; on a parting: its shares'],
   ['m', 'on an exchanger: as large as it can be'],
-  ['e', 'on an exchanger: to where its ends can be moved'],
+  ['e', 'on an exchanger: to where its ends can be moved, one or both'],
   ['Delete', 'on an exchanger: takes it away; on a parting: joins the branches'],
   ['u', 'on an open piece: served by the cheapest utility that reaches'],
   ['U', 'all that is open is served by utilities'],
@@ -28,8 +28,8 @@ export function helpPart(place) {
   fill(dialog, make('h2', { id: 'help-title' }, 'Making a network by hand'),
     make('p', {}, 'What is not served yet is an open piece: a dashed pill with its duty. Drag it to a piece of the '
       + 'other side, or to a utility: before it is dropped, the page says how large the exchanger becomes and what it '
-      + 'costs. Begin at the pinch and go away from it. An end of an exchanger can be dragged to an open piece of '
-      + 'another stream.'),
+      + 'costs. Begin at the pinch and go away from it. An end of an exchanger can be dragged to another open '
+      + 'piece of its side, and the whole of it, by its bar, along its two streams.'),
     make('p', {}, 'Each step is judged by the program and saved in the two files at once. Undo takes back any.'),
     make('dl', {}, ...KEYS.flatMap(([key, words]) => [make('dt', {}, make('kbd', {}, key)), make('dd', {}, words)])),
     make('form', { method: 'dialog' }, make('button', {}, 'close')));

@@ -21,7 +21,7 @@
  * @property {WayOffer[]} ways
  * @property {boolean} waysAsked whether the ways are those of an earlier version
  * @property {WayOffer | null} way the way that is pointed at
- * @property {string | null} partner the partner of an offer that is pointed at
+ * @property {string[]} partners the partners of an offer that is pointed at
  * @property {Slider | null} slider
  * @property {Refusal | null} refusal
  * @property {boolean} busy
@@ -37,7 +37,7 @@ export class Store {
   constructor(view) {
     /** @type {State} */
     this.state = {
-      view, chosen: null, offers: null, instead: null, moves: null, ways: [], waysAsked: true, way: null, partner: null,
+      view, chosen: null, offers: null, instead: null, moves: null, ways: [], waysAsked: true, way: null, partners: [],
       slider: null, refusal: null, busy: false, lost: false, elsewhere: false, closed: false,
     };
     /** @type {Renderer[]} */
