@@ -8,8 +8,9 @@ import shutil
 import subprocess
 import sys
 import time
+from argparse import ArgumentParser
 from collections.abc import Callable, Iterator
-from contextlib import contextmanager
+from contextlib import ExitStack, contextmanager
 from dataclasses import dataclass
 from pathlib import Path
 from typing import TypeVar
@@ -23,6 +24,8 @@ from selenium.webdriver.common.keys import Keys
 from selenium.webdriver.remote.webelement import WebElement
 
 from conftest import DESK, EXAMPLES
+from live_desk import served
+from pinchdesk.cli.open_desk import add_open, bench_of
 
 CHROMIUM, CHROMEDRIVER = (shutil.which(name) for name in ('chromium', 'chromedriver'))
 WAIT, COLOURS = 20.0, 64
@@ -55,33 +58,47 @@ def browser(*words: str, size: str = '1500,960') -> Iterator[Chrome]:
 
 @dataclass(frozen=True)
 class OpenDesk:
-    """A desk that serves two files."""
+    """A desk that serves two files; how it is ended, at once."""
 
-    process: subprocess.Popen[str]
     address: str
     case: Path
     network: Path
+    kill: Callable[[], None]
 
-    def end(self) -> None:
-        self.process.terminate()
-        self.process.wait(timeout=WAIT)
 
-    def kill(self) -> None:
-        self.process.kill()
-        self.process.wait(timeout=WAIT)
+def words_of(case: Path, network: Path | None, more: tuple[str, ...]) -> tuple[list[str], Path]:
+    """The words that open a case and a network without a browser, and that network: the one beside the case unless
+    another one is given."""
+    given = [str(network)] if network else []
+    return [str(case), *given, '--no-browser', *more], network or case.with_name(f'{case.stem}-network.txt')
 
 
 def open_desk(case: Path, network: Path | None = None, *more: str) -> OpenDesk:
-    """Opens a case and a network, that beside it unless another one is given, without a browser."""
-    given = [str(network)] if network else []
-    words = [sys.executable, str(DESK / 'pinchdesk'), 'open', str(case), *given, '--no-browser', *more]
-    network = network or case.with_name(f'{case.stem}-network.txt')
-    process = subprocess.Popen(words, stdout=subprocess.PIPE, stdin=subprocess.DEVNULL, text=True, env=dict(os.environ))
+    """A desk in this process, which need not be loaded for each test."""
+    words, network = words_of(case, network, more)
+    parser = ArgumentParser()
+    add_open(parser)
+    with ExitStack() as stack:
+        server = stack.enter_context(served(bench_of(parser.parse_args(words), stack)))
+        return OpenDesk(server.address, case, network, stack.pop_all().close)
+    raise AssertionError('no desk')
+
+
+def desk_apart(case: Path, network: Path | None = None, *more: str) -> OpenDesk:
+    """A desk in a process of its own, as the command makes it, which can be killed."""
+    words, network = words_of(case, network, more)
+    process = subprocess.Popen([sys.executable, str(DESK / 'pinchdesk'), 'open', *words], stdout=subprocess.PIPE,
+                               stdin=subprocess.DEVNULL, text=True, env=dict(os.environ))
+
+    def kill() -> None:
+        process.kill()
+        process.wait(timeout=WAIT)
+
     assert process.stdout is not None
     for line in process.stdout:
         found = re.search(r'http://127\.0\.0\.1:\d+/\S+/', line)
         if found:
-            return OpenDesk(process, found.group(), case, network)
+            return OpenDesk(found.group(), case, network, kill)
     raise AssertionError(f'no address was printed; status {process.wait()}')
 
 

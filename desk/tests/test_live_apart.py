@@ -2,6 +2,7 @@
 from __future__ import annotations
 
 import shutil
+from collections.abc import Iterator
 from pathlib import Path
 
 import pytest
@@ -15,9 +16,17 @@ from selenium.webdriver import Chrome  # noqa: E402
 from selenium.webdriver.common.by import By  # noqa: E402
 from selenium.webdriver.common.keys import Keys  # noqa: E402
 
-from live_browser import NEEDS_BROWSER, LivePage, OpenDesk, Opens, browser, open_desk  # noqa: E402
+from live_browser import NEEDS_BROWSER, LivePage, OpenDesk, Opens, browser, copied, desk_apart, open_desk  # noqa: E402
 
 pytestmark = NEEDS_BROWSER
+
+
+@pytest.fixture
+def killed(tmp_path: Path) -> Iterator[OpenDesk]:
+    """A desk that can be killed, with a network that is not there yet."""
+    desk = desk_apart(copied(tmp_path), tmp_path / 'mine.txt')
+    yield desk
+    desk.kill()
 
 
 @pytest.mark.long
@@ -40,14 +49,15 @@ def test_a_change_from_outside_is_shown_as_a_step(page: LivePage, desk: OpenDesk
 
 
 @pytest.mark.long
-def test_a_desk_that_is_gone_is_told_and_nothing_is_lost(page: LivePage, desk: OpenDesk, opens: Opens) -> None:
+def test_a_desk_that_is_gone_is_told_and_nothing_is_lost(killed: OpenDesk, driver: Chrome, opens: Opens) -> None:
     """The next desk has the same port, and its page the steps: in the same tab."""
+    page, desk = LivePage(driver).go(killed.address), killed
     page.place(('S1', '120'), ('S3', '137.5'))
     text, steps = desk.network.read_bytes(), page.text('#steps')
     desk.kill()
     page.until(lambda: 'does not answer' in page.text('#lost'))
     assert desk.network.read_bytes() == text
-    again, other = opens(desk.case)
+    again, other = opens(desk.case, desk.network)
     assert other.address.split('/')[2] == desk.address.split('/')[2] and other.address != desk.address
     again.until(lambda: again.text('#steps') == steps)
     assert len(again.exchangers()) == 1
@@ -56,13 +66,14 @@ def test_a_desk_that_is_gone_is_told_and_nothing_is_lost(page: LivePage, desk: O
 
 
 @pytest.mark.long
-def test_steps_go_on_in_a_window_that_is_opened_anew(page: LivePage, desk: OpenDesk) -> None:
+def test_steps_go_on_in_a_window_that_is_opened_anew(killed: OpenDesk, driver: Chrome) -> None:
     """The window that was left open gives them to the next one; after the text was changed meanwhile it does not."""
+    page, desk = LivePage(driver).go(killed.address), killed
     page.place(('S1', '120'), ('S3', '137.5'))
-    steps, driver, first = page.text('#steps'), page.driver, page.driver.current_window_handle
+    steps, first = page.text('#steps'), driver.current_window_handle
     desk.kill()
     page.until(lambda: 'does not answer' in page.text('#lost'))
-    again = open_desk(desk.case)
+    again = open_desk(desk.case, desk.network)
     try:
         driver.switch_to.new_window('tab')
         page.go(again.address).until(lambda: page.text('#steps') == steps)
