@@ -1,9 +1,17 @@
 """The live desk in a real browser, and what comes from elsewhere: other windows, other pages, files and disks."""
 from __future__ import annotations
 
+import errno
+import json
+import os
 import shutil
+import threading
 from collections.abc import Iterator
+from contextlib import contextmanager
+from functools import partial
+from http.server import SimpleHTTPRequestHandler, ThreadingHTTPServer
 from pathlib import Path
+from urllib.parse import quote
 
 import pytest
 
@@ -89,36 +97,128 @@ def test_steps_go_on_in_a_window_that_is_opened_anew(killed: OpenDesk, driver: C
         driver.switch_to.window(first)
 
 
+# All that a page can try with an address, and what it hears: nothing, by whatever way it asks. What it can do is to go
+# there, as anyone can who has the address: the page then opens by itself, out of its reach.
+FOREIGN = '''<!DOCTYPE html><title>foreign</title><body><script>
+const [desk, told] = [new URLSearchParams(location.search).get('desk'), {}];
+const finish = JSON.stringify({version: 1, gesture: {kind: 'finish'}});
+const post = (kind, more) => fetch(desk + 'gesture', {method: 'POST', body: finish, headers: {'Content-Type': kind},
+  ...more}).then(answer => answer.type === 'opaque' ? Promise.reject() : answer.text());
+const line = (kind, ...words) => new Promise((read, shut) => {
+  const open = new kind(desk.replace('http', kind === WebSocket ? 'ws' : 'http') + 'changes', ...words);
+  open.onmessage = event => read(event.data);
+  open.onopen = () => read('open');
+  open.onclose = open.onerror = shut;
+});
+const loaded = (name, fields) => new Promise((read, shut) => {
+  const made = Object.assign(document.createElement(name), fields, {onload: () => read('loaded'), onerror: shut});
+  document.body.append(made);
+  if (name === 'object') setTimeout(shut, 700);
+});
+const sent = kind => new Promise((read, shut) => {
+  const frame = Object.assign(document.createElement('iframe'), {name: kind});
+  const form = Object.assign(document.createElement('form'), {method: 'post', action: desk + 'gesture', enctype: kind,
+    target: kind});
+  form.append(Object.assign(document.createElement('input'), {name: finish.slice(0, -1), value: '}'}));
+  document.body.append(frame, form);
+  form.submit();
+  setTimeout(() => { try { read(frame.contentDocument.body.textContent || shut()); } catch { shut(); } }, 700);
+});
+const tries = {
+  read: () => fetch(desk + 'view').then(answer => answer.text()),
+  history: () => fetch(desk + 'history').then(answer => answer.text()),
+  json: () => post('application/json'), text: () => post('text/plain', {mode: 'no-cors'}),
+  line: () => line(WebSocket), events: () => line(EventSource),
+  beacon: () => navigator.sendBeacon(desk + 'gesture', new Blob([finish])) && Promise.reject(),
+  urlencoded: () => sent('application/x-www-form-urlencoded'), plain: () => sent('text/plain'),
+  multipart: () => sent('multipart/form-data'),
+  image: () => loaded('img', {src: desk + 'page/icon.svg'}),
+  picture: () => loaded('img', {src: desk + 'picture/grid.svg'}),
+  script: () => loaded('script', {src: desk + 'page/main.js'}),
+  module: () => import(desk + 'page/state.js').then(() => 'loaded'),
+  style: () => loaded('link', {rel: 'stylesheet', href: desk + 'page/style.css'}),
+  object: () => loaded('object', {type: 'text/html', data: desk}),
+};
+Promise.all(Object.entries(tries).map(([name, asks]) => Promise.resolve().then(asks).catch(() => '')
+  .then(heard => { told[name] = heard; }))).then(() => { document.title = JSON.stringify(told); });
+document.body.append(Object.assign(document.createElement('iframe'), {id: 'frame', src: desk}));
+</script>'''
+
+
+@contextmanager
+def foreign_pages(folder: Path) -> Iterator[list[str]]:
+    """The addresses of the same page in other hands: a file, another port of this machine, another host."""
+    (folder / 'foreign.html').write_text(FOREIGN, encoding='utf-8')
+    handler = partial(QuietHandler, directory=str(folder))
+    with ThreadingHTTPServer(('127.0.0.1', 0), handler) as server:
+        threading.Thread(target=server.serve_forever, daemon=True).start()
+        port = server.server_address[1]
+        yield [(folder / 'foreign.html').as_uri(),
+               *(f'http://{host}:{port}/foreign.html' for host in ('127.0.0.1', 'localhost'))]
+        server.shutdown()
+
+
+class QuietHandler(SimpleHTTPRequestHandler):
+    """Serves a folder, and says nothing of it."""
+
+    def log_message(self, format: str, *args: object) -> None:
+        del format, args
+
+
 @pytest.mark.long
 def test_a_foreign_page_that_knows_the_address_can_do_nothing(driver: Chrome, desk: OpenDesk, tmp_path: Path) -> None:
-    """It can neither read nor write nor frame it, from a file or from another port."""
-    foreign = tmp_path / 'foreign.html'
-    foreign.write_text(f'''<!DOCTYPE html><title>foreign</title><iframe id="frame" src="{desk.address}"></iframe>
-<script>
-const told = [];
-const gesture = {{version: 1, gesture: {{kind: 'finish'}}}};
-const tries = [
-  fetch('{desk.address}view').then(answer => answer.text()),
-  fetch('{desk.address}gesture', {{method: 'POST', headers: {{'Content-Type': 'application/json'}},
-    body: JSON.stringify(gesture)}}).then(answer => answer.text()),
-  fetch('{desk.address}gesture', {{method: 'POST', mode: 'no-cors', body: JSON.stringify(gesture)}})
-    .then(answer => answer.type === 'opaque' ? '' : answer.text()),
-  new Promise((read, shut) => {{
-    const line = new WebSocket('{desk.address}changes'.replace('http', 'ws'));
-    line.onmessage = event => read('read ' + event.data);
-    line.onclose = () => shut('shut');
-  }}),
-];
-Promise.allSettled(tries).then(all => {{ document.title = JSON.stringify(all.map(one => one.value || '')); }});
-</script>''', encoding='utf-8')
-    driver.get(foreign.as_uri())
+    """It can neither read nor write nor frame it, nor load a part of it, from a file, another port or another host."""
     page = LivePage(driver)
-    page.until(lambda: str(driver.title).startswith('['))
-    assert driver.title == '["","","",""]'
-    driver.switch_to.frame('frame')
-    assert not driver.find_elements(By.CSS_SELECTOR, '#grid')
-    driver.switch_to.default_content()
-    assert not desk.network.exists() or 'open-' in desk.network.read_text(encoding='utf-8')
+    with foreign_pages(tmp_path) as addresses:
+        for address in addresses:
+            driver.get(f'{address}?desk={quote(desk.address)}')
+            page.until(lambda: str(driver.title).startswith('{'))
+            told = json.loads(driver.title)
+            assert len(told) == 16 and {name: heard for name, heard in told.items() if heard} == {}, address
+            driver.switch_to.frame('frame')
+            assert not driver.find_elements(By.CSS_SELECTOR, '#grid')
+            driver.switch_to.default_content()
+        opened(page, desk)
+    page.go(desk.address)
+    assert page.text('#steps li') == 'opened' and not page.exchangers()
+
+
+def opened(page: LivePage, desk: OpenDesk) -> None:
+    """What a foreign page has of a window with the desk that it opens: nothing, for it is cut off from it."""
+    driver, first = page.driver, page.driver.current_window_handle
+    driver.execute_script('window.another = window.open(arguments[0])', desk.address)
+    page.until(lambda: len(driver.window_handles) > 1)
+    page.until(lambda: driver.execute_script('return window.another.closed'))
+    driver.switch_to.window(next(name for name in driver.window_handles if name != first))
+    page.until(lambda: page.all('body.ready'))
+    assert driver.execute_script('return window.opener') is None
+    driver.close()
+    driver.switch_to.window(first)
+
+
+@pytest.mark.long
+def test_a_full_disk_loses_nothing(page: LivePage, desk: OpenDesk, monkeypatch: pytest.MonkeyPatch) -> None:
+    """Neither by a gesture nor by both texts at once; the page says so, and goes on where there is room again."""
+    page.place(('S1', '120'), ('S3', '137.5'))
+    case, network = desk.case.read_bytes(), desk.network.read_bytes()
+    names = sorted(path.name for path in desk.case.parent.iterdir())
+
+    def full(handle: int) -> None:
+        raise OSError(errno.ENOSPC, os.strerror(errno.ENOSPC))
+
+    with monkeypatch.context() as patched:
+        patched.setattr(os, 'fsync', full)
+        page.drag(page.piece('S2', '240'), page.piece('S4', '135'))
+        page.until(lambda: 'No space left on device' in page.text('#toast'))
+        assert 'Nothing was changed' in page.text('#toast') and page.text('.saved').startswith('not saved')
+        cell = page.one('#streams input[aria-label="supply of S1"]')
+        cell.send_keys(Keys.CONTROL + 'a' + Keys.NULL, '160', Keys.ENTER)
+        page.until(lambda: 'No space left' in page.text('#streams .fault'))
+        assert page.exchangers() == ['E1'] and len(page.all('#steps li')) == 2
+    assert (desk.case.read_bytes(), desk.network.read_bytes()) == (case, network)
+    assert sorted(path.name for path in desk.case.parent.iterdir()) == names
+    page.place(('S2', '240'), ('S4', '135'))
+    assert page.text('.saved') == 'saved'
 
 
 @pytest.mark.long
