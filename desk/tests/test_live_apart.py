@@ -188,7 +188,7 @@ def opened(page: LivePage, desk: OpenDesk) -> None:
     driver, first = page.driver, page.driver.current_window_handle
     driver.execute_script('window.another = window.open(arguments[0])', desk.address)
     page.until(lambda: len(driver.window_handles) > 1)
-    page.until(lambda: driver.execute_script('return window.another.closed'))
+    page.until(lambda: bool(driver.execute_script('return window.another.closed')))
     driver.switch_to.window(next(name for name in driver.window_handles if name != first))
     page.until(lambda: page.all('body.ready'))
     assert driver.execute_script('return window.opener') is None

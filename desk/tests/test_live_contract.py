@@ -66,6 +66,13 @@ def test_no_script_and_no_style_stands_in_the_page() -> None:
         assert "'style'" not in (PAGE / name).read_text(encoding='utf-8'), name
 
 
+def test_nothing_on_the_page_moves_by_itself() -> None:
+    """Whether or not a reader wants little motion: there is none but that of the hand."""
+    for name in page_files():
+        text = (PAGE / name).read_text(encoding='utf-8')
+        assert not re.search(r'animation|transition|@keyframes|scroll-behavior|\.animate\(|smooth|<animate', text), name
+
+
 @pytest.mark.parametrize('name', [name for name in page_files() if name.endswith('.js')])
 def test_a_module_is_short_and_imports_what_is_there(name: str) -> None:
     text = (PAGE / name).read_text(encoding='utf-8')

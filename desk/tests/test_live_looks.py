@@ -7,9 +7,13 @@ from pathlib import Path
 import pytest
 
 from conftest import EXAMPLES
+from pinchdesk import Pinch
+from pinchdesk.program.answers import Design
 
 pytest.importorskip('selenium', reason='no selenium to lead a browser')
 pytest.importorskip('uvicorn', reason='no uvicorn to serve the page')
+
+from selenium.webdriver.common.keys import Keys  # noqa: E402
 
 from live_browser import NEEDS_BROWSER, LivePage, Opens, copied  # noqa: E402
 
@@ -95,3 +99,90 @@ def test_a_hostile_name_is_only_a_name(opens: Opens, tmp_path: Path) -> None:
     assert '<img src=x onerror=alert(1)>' in page.text('#files')
     assert not page.all('img') and not page.all('#grid b')
     assert not page.errors()
+
+
+# Of each thing of the diagram, what it is drawn with: the colour, the width, and whether it is dashed.
+DRAWN = '''const seen = selector => [...document.querySelectorAll(selector)].map(found => {
+  const style = getComputedStyle(found);
+  return {selector, stroke: style.stroke, width: style.strokeWidth, dashes: style.strokeDasharray};
+});
+return arguments[0].flatMap(seen)'''
+TEXTS = '''return [...document.querySelectorAll('#grid text')].map(found => getComputedStyle(found).fill)'''
+GROUND = "return getComputedStyle(document.querySelector('#grid .names')).backgroundColor"
+
+
+@pytest.mark.long
+def test_forced_colours_leave_all_to_be_told_apart(opens: Opens, tmp_path: Path) -> None:
+    """In the few colours of a system each line and each text is seen, and what is chosen is thicker too."""
+    page, _ = opens(copied(tmp_path))
+    driver = page.driver
+    try:
+        for scheme in ('light', 'dark'):
+            features = {'forced-colors': 'active', 'prefers-color-scheme': scheme, 'prefers-contrast': 'custom'}
+            driver.execute_cdp_cmd('Emulation.setEmulatedMedia', {'features': [
+                {'name': name, 'value': value} for name, value in features.items()]})
+            assert driver.execute_script("return matchMedia('(forced-colors: active)').matches")
+            page.choose('E4')
+            drawn = driver.execute_script(DRAWN, ['.line line', '.joint .upright', '.exchanger .bar', '.ending rect',
+                                                  '.pinch line', '.row .level'])
+            ground = driver.execute_script(GROUND)
+            assert drawn and {one['stroke'] for one in drawn}.isdisjoint({ground, 'none'})
+            assert {*driver.execute_script(TEXTS)}.isdisjoint({ground})
+            chosen, other = (driver.execute_script(DRAWN, [f'[data-exchanger={name}] .bar'])[0]
+                             for name in ('E4', 'E1'))
+            assert chosen['stroke'] != other['stroke'] and chosen['width'] != other['width']
+    finally:
+        driver.execute_cdp_cmd('Emulation.setEmulatedMedia', {'features': []})
+
+
+@pytest.mark.long
+def test_letters_of_twice_the_size_are_worked_with(opens: Opens, tmp_path: Path) -> None:
+    """The diagram grows with its texts, none of which lies over another; a drag and a number in a cell go as before."""
+    page, desk = opens(copied(tmp_path), tmp_path / 'mine.txt')
+    driver = page.driver
+    small = page.one('#grid .grid:not(.names)').size['height']
+    try:
+        driver.execute_cdp_cmd('Page.setFontSizes', {'fontSizes': {'standard': 32, 'fixed': 32}})
+        page.go(desk.address)
+        assert page.one('#grid .grid:not(.names)').size['height'] > 1.9 * small
+        page.drag(page.piece('S1', '120'), page.piece('S3', '137.5'))
+        page.until(lambda: len(page.exchangers()) == 1)
+        assert driver.execute_script(OVER) == []
+        cut = driver.execute_script("return [...document.querySelectorAll('.cells input')]"
+                                    ".filter(cell => cell.scrollWidth > cell.clientWidth).map(cell => cell.value)")
+        assert cut == []
+    finally:
+        driver.execute_cdp_cmd('Page.setFontSizes', {'fontSizes': {'standard': 16, 'fixed': 13}})
+
+
+# The pairs of ends and pieces of the diagram that lie over one another.
+OVER = '''const boxes = [...document.querySelectorAll('#grid .ending rect, #grid .piece rect')]
+  .map(found => [found.parentNode.textContent, found.getBoundingClientRect()]);
+const over = [];
+for (const [at, [one, box]] of boxes.entries()) for (const [other, near] of boxes.slice(at + 1)) {
+  const beside = box.left > near.right - 1 || near.left > box.right - 1;
+  if (!beside && box.top < near.bottom - 1 && near.top < box.bottom - 1) over.push(`${one} ${other}`);
+}
+return over'''
+PLANTS = EXAMPLES.parent / 'checks' / 'plant'
+
+
+@pytest.mark.long
+def test_nearly_two_hundred_exchangers_are_shown_and_worked_on(opens: Opens, tmp_path: Path, pinch: Pinch) -> None:
+    """Twenty streams with the network that `design` prints: 175 exchangers, none of which lies over another."""
+    case = (PLANTS / 'xiao20-dt10.csv').read_bytes()
+    design = pinch.design(case)
+    assert isinstance(design, Design)
+    (tmp_path / 'case.csv').write_bytes(case)
+    (tmp_path / 'network.txt').write_text(design.text, encoding='utf-8')
+    page, _ = opens(tmp_path / 'case.csv', tmp_path / 'network.txt')
+    page.says('Accepted')
+    names = page.exchangers()
+    assert len(names) == 175 and page.driver.execute_script(OVER) == []
+    page.driver.execute_script('arguments[0].focus()', page.exchanger(names[80]))
+    page.press(Keys.DELETE)
+    page.says('Unfinished')
+    assert names[80] not in page.exchangers() and page.driver.execute_script(OVER) == []
+    page.undo()
+    page.says('Accepted')
+    assert page.exchangers() == names and not page.errors()
