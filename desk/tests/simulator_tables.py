@@ -125,7 +125,7 @@ SIMULATORS = {
     'Biegler and others, a tenth of them, published': PlantTable(BIEGLER, 6000, 22_500, '20 K')}
 # What is refused, and why: each says what to write.
 REFUSED = {
-    'a multiple that is open': (PRO_II.replace('MM*', 'M*'), 'write `10^3 KJ/HR` or `10^6 KJ/HR`'),
+    'a multiple that is open': (PRO_II.replace('MM*KJ', 'M*BTU'), 'write `10^3 BTU/HR` or `10^6 BTU/HR`'),
     'a list of exchangers': ('Exchanger;Hot stream;Hot in (°C);Hot out (°C);Cold stream;Cold in (°C);Cold out (°C);'
                              'Duty (kW)\nE-1;Effluent;170;60;Feed;20;135;230\n', 'give each stream a row of its own'),
     'a utility without a kind': ('Stream,Ts,Tt,mCp,ΔH\n-,°C,°C,kW/°C,kW\nH1,300,100,1.5,300\nST,280,280,(var),\n',

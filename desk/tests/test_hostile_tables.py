@@ -40,7 +40,7 @@ NO_FLOWS = (
     'mcp [x 1000]', 'CP (mW/K)', 'CP (MBtu/h/F)', 'CP x 10', 'CP/10', 'CP (10e3 W/K)', 'h (kW/m2K)', 'U', 'flow',
     'CP (kW/К)')
 NO_HEATS = (
-    'Q (kWh)', 'Q (kWh/batch)', 'Q (MWth)', 'Q (MWh/a)', 'Q (GJ/month)', 'Q (mW)', 'Q (%)', 'Q (kW/K)', 'Duty %',
+    'Q (kWh)', 'Q (kWh/batch)', 'Q (MWe)', 'Q (MWh/a)', 'Q (GJ/month)', 'Q (mW)', 'Q (%)', 'Q (kW/K)', 'Duty %',
     'Q (kVAh)', 'Q (MBtu/h)', 'Q (kJ)', 'Q (t/h)', 'Q (10 kJ)', 'Q x 1000', 'Q/1000', 'Q (tons)')
 # Rows below a stream, and before another one.
 NO_ROWS = (

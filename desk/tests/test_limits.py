@@ -121,7 +121,7 @@ PRICED = 'Kind;Name;Supply °C;Target °C;CP kW/K;{}\nhot;H;150;60;2;\ncold;C;20
     ('Price $', '30', '`$` is a currency, and a price is per unit of heat: write $/MWh'),
     ('Price', '30 €', '`€` is a currency, and a price is per unit of heat: write €/MWh'),
     ('Price (EUR)', '30', '`EUR` is a currency, and a price is per unit of heat: write EUR/MWh'),
-    ('Price (EUR/MWh)', '$30', '`$30`: the currency follows the number with its unit, as 30 $/MWh'),
+    ('Price (EUR/MWh)', '$30', 'two currencies, `EUR/MWh` in the heading and `$` here'),
     ('Price (EUR/MWh)', '30 $', 'two currencies, `EUR/MWh` in the heading and `$` here'),
     ('Price (EUR/MWh)', '30 $/MWh', 'two currencies, `EUR/MWh` in the heading and `$/MWh` here'),
     ('Price (EUR/MWh)', '30 EUR/GJ', 'two units, `EUR/MWh` in the heading and `EUR/GJ` here'),

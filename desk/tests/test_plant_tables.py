@@ -2,6 +2,7 @@
 from __future__ import annotations
 
 import pytest
+from further_tables import FURTHER, OWN_UNITS
 from plant_tables import BOOK, GERMAN, HYSYS, SHENOY, TABLES, Rows
 from simulator_tables import BIEGLER, HINT, REFUSED, SIDES, SIMULATORS
 from tabled import made, refusal, workbook
@@ -12,7 +13,7 @@ from pinchdesk.report.understood_sheet import understood_sheet
 from pinchdesk.tables.convert import Wanted, checked
 
 
-ALL_TABLES = TABLES | SIMULATORS
+ALL_TABLES = TABLES | SIMULATORS | FURTHER
 
 
 @pytest.mark.parametrize('name', ALL_TABLES)
@@ -22,6 +23,14 @@ def test_a_table_is_taken_at_the_first_try(name: str, pinch: Pinch) -> None:
     targets = pinch.targets(case)
     assert abs(targets.hot / 1000 - table.hot) <= table.off, targets
     assert abs(targets.cold / 1000 - table.cold) <= table.off, targets
+
+
+@pytest.mark.parametrize('name', OWN_UNITS)
+def test_published_answers_come_out_in_the_units_of_the_table(name: str, pinch: Pinch) -> None:
+    case = checked(made(FURTHER[name].content, Wanted(FURTHER[name].difference, own_units=True), 't'), pinch).case
+    targets, units = pinch.targets(print_case(case)), case.basis.units
+    assert units is not None
+    assert (str(targets.hot / units.parts), str(targets.cold / units.parts)) == OWN_UNITS[name]
 
 
 @pytest.mark.parametrize('name', REFUSED)

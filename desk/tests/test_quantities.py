@@ -29,6 +29,9 @@ KNOWN = [
     (Kind.HEAT, 'MW', 2, 2_000_000), (Kind.HEAT, 'W', 2, 2), (Kind.HEAT, 'GJ/h', 9, 2_500_000),
     (Kind.FLOW, 'KW/K', 2, 200), (Kind.HEAT, 'kw', 2, 2000), (Kind.HEAT, 'MJ/min', 6, 100_000),
     (Kind.HEAT, 'Btu/h', 225_000, 65941), (Kind.HEAT, 'kcal/h', 450, 523), (Kind.HEAT, 'MMBtu/h', 9, 2_637_640),
+    (Kind.HEAT, 'M*KJ/HR', 9, 2_500_000), (Kind.HEAT, 'K*KJ/HR', 9, 2500), (Kind.HEAT, 'kW_th', 2, 2000),
+    (Kind.HEAT, 'MWth', 2, 2_000_000), (Kind.HEAT, 'million Btu per hour', 9, 2_637_640),
+    (Kind.HEAT, 'thousands of kJ/h', 9, 2500),
 ]
 UNKNOWN = [
     (Kind.TEMPERATURE, 'kW'), (Kind.TEMPERATURE, 'x'), (Kind.TEMPERATURE, '9**9**9'), (Kind.TEMPERATURE, 'K^2'),
@@ -37,6 +40,7 @@ UNKNOWN = [
     (Kind.HEAT, 'mW'), (Kind.FLOW, 'mW/K'), (Kind.HEAT, 'MWh/month'), (Kind.HEAT, 'mJ/h'), (Kind.HEAT, '10e3 kW'),
     (Kind.HEAT, '1,000 kW'),
     (Kind.HEAT, 'kWh'), (Kind.HEAT, 'TJ/yr'), (Kind.HEAT, 'GJ/a'), (Kind.HEAT, 'MBtu/h'), (Kind.HEAT, 'EUR'),
+    (Kind.HEAT, 'M*BTU/HR'), (Kind.HEAT, 'MkJ/h'), (Kind.HEAT, 'MWe'), (Kind.HEAT, 'million'),
     (Kind.HEAT, 'kW' * 30), (Kind.HEAT, '__import__("os")'), (Kind.HEAT, 'kW/K'), (Kind.DIFFERENCE, '%'),
 ]
 
@@ -116,6 +120,7 @@ PRICES = [
     ('EUR/kW/a', 'EUR', 1000, True), ('per kW and year', '', 1000, True), ('EUR/kWa', 'EUR', 1000, True),
     ('EUR/kwh', 'EUR', 1000, False), ('EUR/KWh', 'EUR', 1000, False), ('$/MMBtu', '$', Fraction(2_637_640, 9), False),
     ('$/GJ', '$', Fraction(2_500_000, 9), False), ('ct/kWh', 'ct', 1000, False), ('US$/MWh', 'US$', 10 ** 6, False),
+    ('€·MWh⁻¹', '€', 10 ** 6, False), ('$ kW^-1 yr^-1', '$', 1000, True), ('$ kW-1 y-1', '$', 1000, True),
 ]
 
 
@@ -126,7 +131,7 @@ def test_a_unit_of_prices_is_known(text: str, money: str, amount: Fraction, year
 
 
 @pytest.mark.parametrize('text', ['EUR', 'EUR/kW', 'EUR/t', 'EUR/kWh/a', 'EUR/a', 'x' * 50, '1/MWh', 'EUR/MWh2', '',
-                                  'EUR/(rad kWh)', 'EUR/MBtu', 'EUR/mWh', 'EUR/h'])
+                                  'EUR/(rad kWh)', '$ kW^-1', '€ m^-2', 'EUR/MBtu', 'EUR/mWh', 'EUR/h'])
 def test_what_is_no_unit_of_prices_is_refused(text: str) -> None:
     with pytest.raises(UnknownUnit):
         price_unit_of(text)

@@ -14,7 +14,7 @@ from .layouts import Layout
 from .numbers import NoNumber, Numeral, Says, numeral_of, plain, readings
 from .spreadsheet import Cell, Table, TableRow
 from .two_ends import two_ends
-from .units import Kind, UnknownUnit, names_fahrenheit, of_kilowatts, open_unit, same_unit, unit_of
+from .units import Kind, UnknownUnit, names_fahrenheit, of_kilowatts, open_unit, said_multiple, same_unit, unit_of
 
 EXAMPLES = {Kind.TEMPERATURE: '°C, K, °F', Kind.DIFFERENCE: 'K, °C, °F',
             Kind.FLOW: 'kW/K, MW/°C, W/K, kcal/h/K, Btu/(h °F)',
@@ -188,6 +188,8 @@ class CellReader:
             self.told.fault(row.number, column, open_unit(text) or f'the unit `{text}` is not known here: '
                             f'{EXAMPLES[kind]} and more are')
             return None
+        if said_multiple(text):
+            self.told.once(said_multiple(text))
         made = Entered(unit.exact(value), slack * unit.factor, written(row.cell(column), value, own, text))
         self.entered[row.number, column] = made
         return made

@@ -21,6 +21,7 @@ from .costs_block import cost_rows_of, with_costs
 from .doubts import as_case, doubts_of
 from .heating_curve import with_curves
 from .making import Maker
+from .money import following
 from .names import fit_names
 from .roundings import told as how_far_off
 from .rows import Body, Line, body_of
@@ -130,7 +131,7 @@ def numbers_of(lines: Iterable[Line]) -> Iterable[tuple[int, int, Cell]]:
             cell = line.row.cell(column)
             words = line.kind == 'forbid' or heading in (Heading.NAME, Heading.NUMBER, Heading.KIND)
             if not words and cell.number is None and not cell.fault:
-                yield line.row.number, column, cell
+                yield line.row.number, column, replace(cell, text=following(cell.text))
         for column in line.layout.twins:
             yield line.row.number, column, line.row.cell(column)
 

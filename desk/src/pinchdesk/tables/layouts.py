@@ -137,6 +137,7 @@ class Draft:
         """The layout of this head over these rows; `Refused` where a column that is needed is missing, or stands
         twice."""
         self.pair()
+        self.tell_specific()
         self.drop_unfit()
         columns, twins = self.chosen(rows)
         columns = named_columns(columns, self.titles, rows)
@@ -193,6 +194,12 @@ class Draft:
             unit = named_with_unit(self.titles[column])[1]
             if unit:
                 self.units.setdefault(column, unit)
+
+    def tell_specific(self) -> None:
+        """Takes a CP whose unit is that of a specific heat, which may stand in a row of its own, as one."""
+        for column, heading in self.headings.items():
+            if heading is Heading.CP and not self.is_fit(column) and fits(Heading.SPECIFIC, self.units[column]):
+                self.headings[column] = Heading.SPECIFIC
 
     def drop_unfit(self) -> None:
         """Passes over a CP or a duty in a unit that is none of them, where the other one is there."""

@@ -6,8 +6,16 @@ import re
 # What can be one money alone. `$` and `¥` are those of several countries.
 NAMES = {'€': 'EUR', 'EURO': 'EUR', 'EUROS': 'EUR', '£': 'GBP', 'US$': 'USD'}
 SHARED = {'$': ('USD', 'CAD', 'AUD', 'NZD', 'SGD', 'HKD', 'MXN'), '¥': ('JPY', 'CNY')}
+LONGEST = 60
 ALONE = re.compile(r'[A-Za-z]{0,3}[€$£¥]|[A-Z]{3}|[Ee]uros?')
-LEADING = re.compile(r'[€$£¥]\s*[-+−]?[0-9.,].*')
+LEADING = re.compile(r'(?P<money>[A-Z]{0,3}[€$£¥]|[A-Z]{3}(?=\s))\s*(?P<number>[-+−]?[0-9.,][0-9.,\'’ \u00a0\u202f]*)'
+                     r'(?P<unit>.*)')
+
+
+def following(text: str) -> str:
+    """A price with its money behind the number: `9.50 $/MMBtu` for `$9.50/MMBtu`; any other text as it is."""
+    match = LEADING.fullmatch(text.strip()) if len(text) <= LONGEST else None
+    return f'{match["number"].strip()} {match["money"]}{match["unit"]}' if match else text
 
 
 def money_of(text: str) -> str:

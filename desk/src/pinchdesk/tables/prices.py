@@ -20,6 +20,8 @@ from .units import (KILOWATT, LONGEST, LONGEST_TEXT, OPEN, SIGNS, WRITTEN, YEAR,
 MOST = 1_000_000
 MONEY = re.compile(r'[^\W\d]{0,8}|[€$£¥]|[A-Za-z]{0,3}[€$£¥]')
 WATT_YEAR = re.compile(r'\b([kMG]?W)(?:a|y|yr|year)\b')
+# Exponents in place of a line: `€ MWh^-1`, `$ kW^-1 yr^-1`.
+EXPONENTS = re.compile(r'(?P<money>[^\s*/0-9]*)[\s*]*(?P<first>[A-Za-z]+)\^?-1(?:[\s*]*(?P<second>[A-Za-z]+)\^?-1)?')
 
 
 @dataclass(frozen=True)
@@ -39,6 +41,9 @@ def price_unit_of(text: str) -> PriceUnit:
     plain = text.strip() if len(text) <= LONGEST_TEXT else ''
     for sign, letters in SIGNS.items():
         plain = plain.replace(sign, letters)
+    exponents = EXPONENTS.fullmatch(plain)
+    if exponents:
+        plain = f'{exponents["money"]}/({" ".join(part for part in exponents.groups()[1:] if part)})'
     plain = re.sub(r'\band\b', '*', re.sub(r'(?:^|\b)(?:per|pro|par|por)\b', '/', plain))
     money, slash, below = (part.strip() for part in plain.partition('/'))
     times, below = multiple_of(below.strip('() ') if below.count('(') == 1 and below.endswith(')') else below)

@@ -56,7 +56,7 @@ ALLOWED = re.compile(r'[A-Za-z°_/*^() ]*(?:(?:\^|\*\*)-?[123](?!\s*(?:\^|\*\*))
 WRITTEN = {'btu': 'Btu', 'btus': 'Btu', 'mmbtu': 'MMBtu', 'kbtu': 'kBtu', 'btuh': 'Btu/hour', 'mbh': 'MBH',
            'kcal': 'kcal', 'gcal': 'Gcal', 'mmkcal': 'MMkcal', 'kj': 'kJ', 'gj': 'GJ', 'h': 'hour', 'hr': 'hour',
            'hrs': 'hour', 'std': 'hour', 'stunde': 'hour', 'heure': 'hour', 'hora': 'hour', 'ora': 'hour', 'sec': 's',
-           'kgmole': 'kmol', 'kgmol': 'kmol', 'lbs': 'lb', 'te': 't', 'kwh': 'kWh'}
+           'kgmole': 'kmol', 'kgmol': 'kmol', 'kg': 'kg', 'lb': 'lb', 'lbs': 'lb', 'te': 't', 'kwh': 'kWh'}
 DEGREES = re.compile(r'(?:\b(?:deg(?:ree)?s?|grad)\b\.?|\bdeg(?=[CFKR]\b)|°|\bo(?=[CF]\b))\s*'
                      r'(?:([CFKR])\b|(celsius|fahrenheit|kelvin)\b)', re.I)
 # An exponent behind a unit, as in `kW K-1` and `m2`; a hyphen or a point between two units is a product.
@@ -64,6 +64,12 @@ BEHIND = re.compile(r'(?<=[A-Za-z])\^?(-1)(?![0-9])')
 SQUARE = re.compile(r'\b(m|cm|ft)\^?([23])(?![0-9])')
 PRODUCT = re.compile(r'(?<=[A-Za-z0-9)])\s*[-.]\s*(?=[A-Za-z°(])')
 MILLIONS = re.compile(r'MM\s*\*?\s*(?=(?:btuh?|k?cal|kj|kw|w)\b)', re.I)
+# PRO/II writes `K*KG/HR` and, of metric heats, `M*KJ/HR`, where a thousand is its `K*`.
+STARRED = re.compile(r'(?:(?P<thousand>K)|M(?=\s*\*\s*K(?:J|CAL)\b))\s*\*\s*(?=[A-Z])')
+# `million Btu per hour`, `thousands of kcal/h`.
+COUNTED = re.compile(r'(?:(?P<thousand>thousands?)|millions?)\s+(?:of\s+)?(?=[A-Za-z])', re.I)
+# Heat is called so beside electric power: `kW_th`, `MWth`, `kW (th)`.
+THERMAL = re.compile(r'(?<=[kKM]W)\s*_?\s*(?:th|\(th\)|thermal|therm)(?![A-Za-z])')
 LETTER = re.compile(r'(?<![A-Za-z_°])([CF])(?![A-Za-z_])')
 NAMED = re.compile(r'\b(celsius|fahrenheit)\b', re.I)
 KELVIN = re.compile(r'\bkelvins?\b', re.I)
@@ -75,7 +81,7 @@ RAISED = re.compile('[⁰¹²³⁴-⁹]+')
 # `KW` can be nothing else; MBtu is a thousand of them to some and a million to others, and mW was meant to be MW.
 KILOWATT = re.compile(r'\b(?:KW|Kw|kw)(?![A-Za-z_])')
 OPEN = re.compile(r'\b(?:(?i:mbtu)|m(?:W|J|cal))')
-# PRO/II writes `M*KJ/HR`, others `MBtu/h` and `Mkcal/h`.
+# As in `MBtu/h` and `Mkcal/h`.
 EITHER = re.compile(r'M\s*\*?\s*(?=(?:[Bb][Tt][Uu]|[Kk][Cc][Aa][Ll]|[Kk][Jj]))|m(?=(?:W|J|cal))')
 # Who gives a heat per month does not say how many hours it is running.
 MONTH = re.compile(r'\b(?:months?|weeks?|fortnights?|quarters?|decades?|centur(?:y|ies))\b', re.I)
@@ -105,6 +111,9 @@ def multiple_of(text: str) -> tuple[int, str]:
     millions = MILLIONS.match(text.strip())
     if millions:
         return 10 ** 6, text.strip()[millions.end():]
+    counted = STARRED.match(text.strip()) or COUNTED.match(text.strip())
+    if counted:
+        return 1000 if counted['thousand'] else 10 ** 6, text.strip()[counted.end():]
     with_powers = RAISED.sub(lambda match: '^' + ''.join(str('⁰¹²³⁴⁵⁶⁷⁸⁹'.index(digit)) for digit in match[0]),
                              text.strip())
     match = TIMES.fullmatch(with_powers.replace('×', 'x').replace('·', '*').replace('⋅', '*'))
@@ -119,7 +128,7 @@ def normal(text: str) -> str:
     plain = text.strip() if len(text) <= LONGEST_TEXT else ''
     for sign, letters in SIGNS.items():
         plain = plain.replace(sign, letters)
-    plain = KILOWATT.sub('kW', re.sub(r'\b(?:per|pro|par|por)\b', '/', plain))
+    plain = KILOWATT.sub('kW', re.sub(r'\b(?:per|pro|par|por)\b', '/', THERMAL.sub('', plain)))
     plain = DEGREES.sub(lambda match: '°' + (match[1] or match[2][0]).upper(), plain)
     plain = SQUARE.sub(r'\1^\2 ', BEHIND.sub(r'^\1', plain))
     plain = PRODUCT.sub('*', plain.rstrip('. '))
@@ -185,6 +194,14 @@ def open_unit(text: str) -> str:
                f'in {bare}'
     return f'the `M` of `{text}` is a thousand in some programs and a million in others: write `10^3 {bare}` or ' \
            f'`10^6 {bare}`'
+
+
+def said_multiple(text: str) -> str:
+    """What is told of a unit with an `M*`, as PRO/II writes it; empty of any other one."""
+    match = STARRED.match(text.strip())
+    if match is None or match['thousand']:
+        return ''
+    return f'`{text}` is taken as 10^6 {text.strip()[match.end():]}, as PRO/II writes it'
 
 
 @lru_cache(maxsize=None)

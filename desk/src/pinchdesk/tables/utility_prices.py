@@ -1,14 +1,15 @@
 """The prices of utilities as a table has them, with their units."""
 from __future__ import annotations
 
-from dataclasses import dataclass
+from dataclasses import dataclass, replace
 from fractions import Fraction
 
 from ..formats.shown import decimal
 from .cells import CellReader, Told
-from .money import LEADING, fault_of, is_money
+from .money import fault_of, following, is_money
 from .prices import PriceUnit, price_unit_of
 from .rows import Line
+from .spreadsheet import TableRow
 from .steam import by_heat, latent_heat, per_mass, pressure_of
 from .units import UnknownUnit, size_of
 from .vocabulary import Heading
@@ -26,12 +27,7 @@ class PriceReader:
         column = line.at(Heading.PRICE)
         if column is None or not self.reader.given(line.row, column):
             return None, None
-        text = line.row.cell(column).text
-        if LEADING.fullmatch(text):
-            cause = f'`{text}`: the currency follows the number with its unit, as 30 $/MWh, or in the heading'
-            self.told.fault(line.row.number, column, cause)
-            return None, None
-        number = self.reader.number(line.row, column)
+        number = self.reader.number(with_following(line.row, column), column)
         if number is None:
             return None, None
         value, _, own = number
@@ -99,6 +95,13 @@ class PriceReader:
         if latent is None:
             return None, ' and iapws, which is not installed'
         return latent, f' at {decimal(value, 6)} {unit} (IAPWS-IF97)'
+
+
+def with_following(row: TableRow, column: int) -> TableRow:
+    """A row whose price has its money behind the number."""
+    cells = [replace(cell, text=following(cell.text)) if at == column and cell.number is None else cell
+             for at, cell in enumerate(row.cells)]
+    return replace(row, cells=tuple(cells))
 
 
 def unknown_price(unit: str) -> str:

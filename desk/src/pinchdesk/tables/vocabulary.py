@@ -10,35 +10,36 @@ class Heading(enum.Enum):
     """A column of a table. The words are those that name it, in small letters, without blanks, accents and marks."""
 
     KIND = ('kind type streamtype hotcold hotorcold art typ tipo nature chaudfroid caldofreddo calientefrio heisskalt '
-            'warmkalt side')
+            'warmkalt side condition')
     NAME = ('name stream streams streamname strom strome bezeichnung stoffstrom flux courant nom corriente nombre '
             'corrente flusso nome utility utilities utilite utilites servicio servicios utilidad processstream '
             'hotstream hotstreams coldstream coldstreams hotutility hotutilities coldutility coldutilities '
             'heizmedium kuhlmedium '
             'heizmittel kuhlmittel fluxchauds fluxfroids courantschauds courantsfroids utilitechaude utilitefroide '
             'corrientescalientes corrientesfrias correnticalde correntifredde heissestrome warmestrome kaltestrome '
-            'designation denominacion denominazione streamidentification inletstream sigla kurzzeichen '
+            'designation denominacion denominazione streamidentification inletstream feedstream sigla kurzzeichen '
             'kennzeichen')
     NUMBER = 'no nr n num number id tag repere streamno streamnumber streamid numero nummer nro pos'
     SUPPLY = ('supply supplied ts tin in inlet level t temperature temp temperatur temperatura from start starting '
               'initial source entry entrance eintritt eintritts ein eingang eingangs anfang anfangs vorlauf zulauf '
               'entree '
               'initiale depart entrada inicial suministro ingresso iniziale entrata partenza niveau '
-              'starttemperatur niveltermico tein ent entr eintr anf ini iniz init sup')
+              'starttemperatur niveltermico tein ent entr eintr anf ini iniz init sup entering ewt feedtemperature '
+              'feedtemp feedt')
     TARGET = ('target tt tout out outlet to end ending final exit austritt austritts aus ausgang ausgangs ende ziel '
               'rucklauf ablauf sortie finale cible arrivee salida objetivo uscita obiettivo arrivo taus austr fin sal '
-              'sort usc targ')
+              'sort usc targ leaving lwt producttemperature producttemp productt')
     CP = ('cp mcp fcp wcp mdotcp mxcp gcp heatcapacityflow heatcapacityflowrate heatcapacityrate heatcapacity flowcp '
           'warmekapazitatsstrom kapazitatsstrom warmekapazitatsflussstrom debitcalorifique capacitecalorifique '
           'debitdecapacitethermique capacitethermique debitdecapacite capacidadcalorifica capacidadtermica flujocp '
           'capacitatermica portatatermica capacitatermicadiflusso flussodicapacitatermica heatflowcapacity '
-          'capacityflowrate thermalcapacityflow flujodecapacidadcalorifica')
+          'capacityflowrate thermalcapacityflow flujodecapacidadcalorifica warmekapstrom warmekapazitatsstr')
     LOAD = ('load heat duty q dh deltah enthalpy enthalpychange heatload heatduty heatflow power leistung warmestrom '
             'warmeleistung warmelast warme warmemenge warmebedarf enthalpiestrom enthalpie puissance chargethermique '
             'puissancethermique fluxthermique chaleur charge carga cargatermica calor potencia potenciatermica '
             'entalpia carico caricotermico calore potenza potenzatermica heatcontent heatrequirement heatavailable '
             'enthalpyflow '
-            'thermalload thermalduty thermalpower heatpower qdot flussotermico flujodecalor')
+            'thermalload thermalduty thermalpower heatpower qdot flussotermico flujodecalor htduty qavailable')
     CONTRIBUTION = ('contribution dtcont dtcontribution dtmin2 deltatmin2 deltatcont deltatcontribution dt2 '
                     'dtmincontribution dtmincont dtmincontrib dtmincontr dtcontrib dtcontr')
     LEAST = 'least minimum min leastload minload leastheat minheat minimumload minduty'
@@ -52,7 +53,8 @@ class Heading(enum.Enum):
     OVERALL = ('overallcoefficient uvalue overallheattransfercoefficient kwert kvalue uwert '
                'warmedurchgangskoeffizient overallhtc')
     MASS = ('mdot mass massflow massflowrate flowrate flow massrate massenstrom mengenstrom durchfluss menge debit '
-            'debitmassique caudal caudalmasico portata portatamassica molarflow molarflowrate molflow')
+            'debitmassique caudal caudalmasico portata portatamassica molarflow molarflowrate molflow rate '
+            'totalrate')
     SPECIFIC = ('specificheat specificheatcapacity effectivecp masscp spezifischewarmekapazitat spezifischewarme '
                 'spezwarmekapazitat spezwarme chaleurspecifique chaleurmassique calorespecifico calorespecifico '
                 'capacidadcalorificaespecifica massheatcapacity meancp averagecp cs calorespec calorspec '
@@ -66,9 +68,9 @@ class Heading(enum.Enum):
 MEANINGS: dict[str, Heading] = {word: heading for heading in Heading for word in heading.value.split()}
 # Words that say nothing beside a heading: `Stream supply temperature`, `Température d'entrée`, `T in`.
 FILLING = frozenset('stream streams process of the de d di del della dell du des la le el il lo l der die das a value '
-                    'strom stromes flux corriente corrente total'.split())
+                    'strom stromes flux corriente corrente total calculated calc'.split())
 # Headings that speak of another stream than that of the row, as simulators name what leaves an exchanger.
-OF_OTHERS = frozenset('outletstream outstream streamout productstream'.split())
+OF_OTHERS = frozenset('outletstream outstream streamout productstream prodstream'.split())
 WARM = frozenset('t temp temperature temperatur temperatura temperatures'.split())
 WARMED = frozenset((Heading.SUPPLY, Heading.TARGET))
 # Symbols of one letter are a heading by their unit alone: `C (kW/K)`, `h (W/m2K)`, `H (kW)`.

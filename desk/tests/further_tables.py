@@ -1,0 +1,102 @@
+"""More tables as books, simulators, plants and national sheets have them, which were taken, or refused for what an
+engineer reads without a thought. Where nothing else is said it is the four-stream problem of Linnhoff and others
+(published targets, from memory, 20 and 60 kW at 10 K)."""
+from __future__ import annotations
+
+from plant_tables import PlantTable, Rows
+from tabled import workbook
+
+# Targets of the four streams of Seider and others, from memory: 500,000 and 600,000 Btu/h at 10 °F.
+SEIDER_HOT, SEIDER_COLD = 146.535556, 175.842667
+# Douglas, Conceptual Design of Chemical Processes (1988): 70 and 60 (10^3 Btu/h) at 10 °F, from memory.
+DOUGLAS = '''Stream No.,Condition,"FCp, Btu/(hr·°F)","Tin, °F","Tout, °F","Q available, 10^3 Btu/hr"
+1,Hot,1000,250,120,130
+2,Hot,4000,200,100,400
+3,Cold,3000,90,150,-180
+4,Cold,6000,130,190,-360
+,,,,,-10
+'''
+HYSYS_HEATERS = '''Name,E-100,E-101,E-102,E-103
+Feed Temperature [C],170.0,150.0,20.00,80.00
+Product Temperature [C],60.00,30.00,135.0,140.0
+Mass Flow [kg/h],5400,3600,4120,7200
+Duty [kJ/h],1.188e+006,6.480e+005,8.280e+005,8.640e+005
+'''
+ASPEN_HEATERS = '''Name,B1,B2,B3,B4
+Property method,RK-SOAVE,RK-SOAVE,RK-SOAVE,RK-SOAVE
+Inlet temperature [C],170,150,20,80
+Outlet temperature [C],60,30,135,140
+Outlet pressure [bar],5,5,8,8
+Calculated heat duty [kW],-330,-180,230,240
+Calculated vapor fraction,0,0,0,0
+'''
+CHEMCAD = '''Equip. No.,1,2,3,4
+Name,Cooler 1,Cooler 2,Preheater,Reheater
+T In C,170,150,20,80
+T Out C,60,30,135,140
+Calc Ht Duty kW,-330,-180,230,240
+'''
+PRO_II_MILLIONS = '''HX ID,FEED STREAM,PROD STREAM,TEMP IN,TEMP OUT,DUTY,SERVICE
+,,,DEG C,DEG C,M*KJ/HR,
+E1,S1,S2,170.00,60.00,1.1880,HOT
+E2,S3,S4,150.00,30.00,0.6480,HOT
+E3,S5,S6,20.00,135.00,0.8280,COLD
+E4,S7,S8,80.00,140.00,0.8640,COLD
+'''
+PRO_II_RATES = '''STREAM,RATE,CP,TEMP IN,TEMP OUT
+,K*KG/HR,KJ/KG-C,C,C
+S1,5.4,2.0,170,60
+S3,3.6,1.5,150,30
+S5,3.6,2.0,20,135
+S7,7.2,2.0,80,140
+'''
+ENTERING = '''Tag,Service,Entering Temp (°F),Leaving Temp (°F),Load (MBH)
+H-1,Cooling,260,160,3000
+H-2,Cooling,250,130,1800
+C-1,Heating,120,235,2300
+C-2,Heating,180,240,2400
+'''
+MILLIONS = '''"All temperatures in degrees Fahrenheit, heat loads in million Btu per hour",,,
+Stream,Supply temperature,Target temperature,Heat load
+H1,260,160,3.0
+H2,250,130,1.8
+C1,120,235,2.3
+C2,180,240,2.4
+'''
+THERMAL = '''Stream;Type;T_start [°C];T_end [°C];Q [kW_th]
+H1;Source;170;60;330
+H2;Source;150;30;180
+C1;Sink;20;135;230
+C2;Sink;80;140;240
+'''
+PRICES_IN_CELLS = '''Stream,Type,Tin (°C),Tout (°C),Duty (kW),Price
+H1,hot,170,60,"3,300",
+H2,hot,150,30,"1,800",
+C1,cold,20,135,"2,300",
+C2,cold,80,140,"2,400",
+MP steam,hot utility,185,185,,$9.50/MMBtu
+Cooling tower,cold utility,25,25,,$0.35/GJ
+'''
+KAP_STROM: Rows = [['Strom', 'T Ein', 'T Aus', 'Wärmekap.-Strom'], [None, '°C', '°C', 'kW/K'],
+                   ['H1', '170,0', '60,0', '3,0'], ['H2', '150,0', '30,0', '1,5'], ['C1', '20,0', '135,0', '2,0'],
+                   ['C2', '80,0', '140,0', '4,0']]
+# Linnhoff and Flower's TC3, published: 107.5 and 40 kW at 20 K.
+FOUR_SHEETS = workbook(
+    [['Hot streams'], ['ID', 'Ts/°C', 'Tt/°C', 'CP/kW·K⁻¹'], ['1', 150, 60, 2], ['2', 90, 60, 8]],
+    Cold=[['Cold streams'], ['ID', 'Ts/°C', 'Tt/°C', 'CP/kW·K⁻¹'], ['3', 20, 125, 2.5], ['4', 25, 100, 3]],
+    Utilities=[['ID', 'Kind', 'Ts/°C', 'Tt/°C', 'Cost/€·MWh⁻¹'], ['Steam', 'hot', 160, 160, 30],
+               ['Water', 'cold', 15, 20, 1]],
+    Economics=[['Economic data'], ['Plant life', 5, 'yr'], ['Interest rate', 10, '%']])
+# The published targets of these tables in their own units, to the last digit.
+OWN_UNITS = {'Douglas, published': ('70', '60'), 'entering and leaving': ('500', '600'),
+             'millions in a title': ('1/2', '3/5')}
+FURTHER = {
+    'Douglas, published': PlantTable(DOUGLAS, 20.514978, 17.584267, '10 °F', .5),
+    'HYSYS, heaters side by side': PlantTable(HYSYS_HEATERS, 20, 60),
+    'Aspen Plus, heaters': PlantTable(ASPEN_HEATERS, 20, 60), 'ChemCAD': PlantTable(CHEMCAD, 20, 60),
+    'PRO/II, millions': PlantTable(PRO_II_MILLIONS, 20, 60), 'PRO/II, rates': PlantTable(PRO_II_RATES, 20, 60),
+    'entering and leaving': PlantTable(ENTERING, SEIDER_HOT, SEIDER_COLD, '10 °F', 3),
+    'millions in a title': PlantTable(MILLIONS, SEIDER_HOT, SEIDER_COLD, '10 °F', 3),
+    'thermal kilowatts': PlantTable(THERMAL, 20, 60), 'prices in cells': PlantTable(PRICES_IN_CELLS, 200, 600),
+    'German abbreviations': PlantTable(workbook(KAP_STROM), 20, 60),
+    'TC3 on four sheets, published': PlantTable(FOUR_SHEETS, 107.5, 40, '20 K')}
