@@ -89,7 +89,94 @@ FOUR_SHEETS = workbook(
     Economics=[['Economic data'], ['Plant life', 5, 'yr'], ['Interest rate', 10, '%']])
 # The published targets of these tables in their own units, to the last digit.
 OWN_UNITS = {'Douglas, published': ('70', '60'), 'entering and leaving': ('500', '600'),
-             'millions in a title': ('1/2', '3/5')}
+             'millions in a title': ('1/2', '3/5'), 'Rankine': ('1/2', '3/5')}
+# Gundersen, A Process Integration Primer (2000): 1000 and 800 kW at 20 K, from memory.
+PRIMER = '''Stream;Ts;Tt;mCp;ΔH;h
+ID;°C;°C;kW/°C;kW;kW/m2°C
+H1;270;160;18;1980;0.5
+H2;220;60;22;3520;0.5
+C1;50;210;20;3200;0.5
+C2;160;210;50;2500;0.5
+ST;250;250;(var);(var);2.5
+CW;15;20;(var);(var);1.0
+'''
+# Yee and Grossmann (1990), whose utilities are S1 and W1.
+LETTERS = '''Stream,TIN (K),TOUT (K),Fcp (kW K^-1),Cost ($ kW^-1 yr^-1)
+H1,650,370,10,-
+H2,590,370,20,-
+C1,410,650,15,-
+C2,353,500,13,-
+S1,680,680,-,80
+W1,300,320,-,15
+'''
+# El-Halwagi, Process Integration (2006): 2620 and 50 kW at 10 K, from memory.
+QUESTIONS = '''Table 9.1 Stream data for the chemical process;;;;
+Stream;Flow rate × specific heat (kW/K);Supply temperature (K);Target temperature (K);Enthalpy change (kW)
+H1;10;520;330;1900
+H2;5;380;300;400
+C1;19;300;550;-4750
+C2;2;320;380;-120
+HU1;?;560;520;?
+CU1;?;290;300;?
+'''
+UNISIM = '''"Object","Inlet Temperature","Outlet Temperature","Heat Flow","Type"
+"","C","C","kW",""
+"E-100","170.0000","60.0000","330.0000","Cooler"
+"E-101","150.0000","30.0000","180.0000","Cooler"
+"E-102","20.0000","135.0000","230.0000","Heater"
+"E-103","80.0000","140.0000","240.0000","Heater"
+'''
+DWSIM = '''Object;Type;Inlet Temperature (C);Outlet Temperature (C);Heat Added/Removed (kW)
+CL-001;Cooler;170;60;330
+CL-002;Cooler;150;30;180
+HT-001;Heater;20;135;230
+HT-002;Heater;80;140;240
+'''
+LATENT = '''Stream\tType\tT1 (ºC)\tT2 (ºC)\tmCp (kW/K)\tHeat (kW)\th (kW/m2 K)
+Hot 1\tSensible\t170\t60\t3\t330\t0.5
+Hot 2\tSensible\t150\t30\t1.5\t180\t0.5
+Hot 3\tLatent\t110\t110\t\t100\t1
+Cold 1\tSensible\t20\t135\t2\t230\t0.5
+Cold 2\tSensible\t80\t140\t4\t240\t0.5
+Cold 3\tLatent\t120\t120\t\t150\t1
+'''
+RANKINE = '''Stream,Supply Temp (°R),Target Temp (°R),Heat Duty (MMBtu/hr)
+H1,719.67,619.67,3.0
+H2,709.67,589.67,1.8
+C1,579.67,694.67,-2.3
+C2,639.67,699.67,-2.4
+'''
+IN_BRACKETS = '''Stream,Ts (°C),Tt (°C),Enthalpy change (kW)
+H1,170,60,(330)
+H2,150,30,(180)
+C1,20,135,230
+C2,80,140,240
+'''
+BOILING = '''Stream,Type,Supply (°C),Target (°C),Heat load (kW)
+Effluent,hot,170,60,330
+Overhead,hot,150,30,180
+Feed,cold,20,135,230
+Recycle,cold,80,140,240
+Reboiler,cold,120,boiling,100
+Condenser,hot,95,condensing,150
+'''
+FOOTNOTES = '''Stream;Tin (°C);Tout (°C);Q (kW)
+H1;170;60;330¹⁾
+H2;150;30*;180
+C1;20;135;230
+C2;80;140;240²⁾
+* limited by freezing
+1) design case
+2) average
+'''
+UNSIZED = '''Stream;Tin [°C];Tout [°C];CP [kW/K];h [W/m²K]
+H1;160;93;8,79;500
+H2;249;138;10,55;500
+C1;60;160;7,62;500
+C2;116;260;6,08;500
+Steam;270;270;;3000
+Cooling water;38;82;;1000
+'''
 FURTHER = {
     'Douglas, published': PlantTable(DOUGLAS, 20.514978, 17.584267, '10 °F', .5),
     'HYSYS, heaters side by side': PlantTable(HYSYS_HEATERS, 20, 60),
@@ -99,4 +186,12 @@ FURTHER = {
     'millions in a title': PlantTable(MILLIONS, SEIDER_HOT, SEIDER_COLD, '10 °F', 3),
     'thermal kilowatts': PlantTable(THERMAL, 20, 60), 'prices in cells': PlantTable(PRICES_IN_CELLS, 200, 600),
     'German abbreviations': PlantTable(workbook(KAP_STROM), 20, 60),
-    'TC3 on four sheets, published': PlantTable(FOUR_SHEETS, 107.5, 40, '20 K')}
+    'TC3 on four sheets, published': PlantTable(FOUR_SHEETS, 107.5, 40, '20 K'),
+    'Gundersen, published': PlantTable(PRIMER, 1000, 800, '20 K'),
+    'S1 and W1': PlantTable(LETTERS, 450, 2139), 'El-Halwagi, published': PlantTable(QUESTIONS, 2620, 50),
+    'UniSim': PlantTable(UNISIM, 20, 60), 'DWSIM': PlantTable(DWSIM, 20, 60),
+    'HINT, latent': PlantTable(LATENT, 140, 130),
+    'Rankine': PlantTable(RANKINE, SEIDER_HOT, SEIDER_COLD, '10 °F', 3),
+    'brackets of accountants': PlantTable(IN_BRACKETS, 20, 60), 'boiling': PlantTable(BOILING, 112.5, 202.5),
+    'footnotes': PlantTable(FOOTNOTES, 20, 60),
+    '4SP1 with utilities, published': PlantTable(UNSIZED, 127.68, 250.14)}

@@ -128,7 +128,6 @@ REFUSED = {
     'a multiple that is open': (PRO_II.replace('MM*KJ', 'M*BTU'), 'write `10^3 BTU/HR` or `10^6 BTU/HR`'),
     'a list of exchangers': ('Exchanger;Hot stream;Hot in (°C);Hot out (°C);Cold stream;Cold in (°C);Cold out (°C);'
                              'Duty (kW)\nE-1;Effluent;170;60;Feed;20;135;230\n', 'give each stream a row of its own'),
-    'a utility without a kind': ('Stream,Ts,Tt,mCp,ΔH\n-,°C,°C,kW/°C,kW\nH1,300,100,1.5,300\nST,280,280,(var),\n',
-                                 'or heater or cooler where it is a utility'),
-    'signs the other way round': (SIDES.replace(';Hot/Cold', ';Remark'), 'a duty below 0 is what a stream gives'),
-    'signs of changes the other way round': (SIDES.replace('Duty [', 'ΔH ['), 'a duty below 0 is what a stream gives')}
+    'a utility without a kind': ('Stream,Ts,Tt,mCp,ΔH\n-,°C,°C,kW/°C,kW\nH1,300,100,1.5,300\nUT,200,200,(var),\n',
+                                 'it is a utility: a column `kind` has to say heater or cooler'),
+    'signs the other way round': (SIDES.replace(';Hot/Cold', ';Remark'), 'a duty below 0 is what a stream gives')}

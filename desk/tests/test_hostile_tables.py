@@ -46,8 +46,8 @@ NO_HEATS = (
 NO_ROWS = (
     'Utility;Level;Price;', ';K;K;kW/K', ';;;MW/K',
     'A;;;2', 'A;150;;2', 'A;;60;2', ';150;60;2', 'A;150;60;', 'A;150;60;0', 'A;150;60;-2', 'A;150;150;2', '" ;60;2',
-    'A;60;150;2;9', 'A;150;60;2;x;9', ';;;2 MW/K', 'Total;;;2 MW/K', 'Utilities;;;(2026)', 'Steam;250;250;',
-    'CW;20;30;', 'A;";60;2')
+    'A;60;150;2;9', 'A;150;60;2;x;9', ';;;2 MW/K', 'Total;;;2 MW/K', 'Utilities;;;(2026)', 'Condensate;250;250;',
+    'C3;20;30;', 'A;";60;2')
 ROWS = (
     'Sum;;;4', ';;;4', 'feed and product;;;', 'Total (2);;;4', '# by hand;;;', '-;-;-;-', ';;;', 'all of 2026;;;')
 # The price of a heater beside another one of 40 EUR/MWh.

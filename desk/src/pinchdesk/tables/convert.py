@@ -24,6 +24,7 @@ from .making import Maker
 from .money import following
 from .names import fit_names
 from .roundings import told as how_far_off
+from .row_words import with_equipment, with_row_words
 from .rows import Body, Line, body_of
 from .segmented import with_segments
 from .sheets import chosen_sheets
@@ -81,7 +82,7 @@ def converted(table: Table, wanted: Wanted) -> Converted:
     blocks = blocks_of(table)
     body = body_of(blocks, told, () if blocks.headed else [plain_line(row, told) for row in table.rows])
     blocks, said = with_said(blocks, body)
-    body = with_layouts(body, blocks)
+    body = with_row_words(with_layouts(body, blocks), told)
     for words, text in told_of(said, {words.row: words.text for words in reversed(body.passed)}):
         told.note(words.row, words.column, text)
     doubts_of(blocks, body.lines, told, wanted.decimal is not None)
@@ -93,7 +94,7 @@ def converted(table: Table, wanted: Wanted) -> Converted:
     reader = CellReader(told, mark, {}, {}, layouts=layouts)
     if not blocks.headed:
         check_order(body.lines, mark, told)
-    body, segmented = with_segments(body, reader, told)
+    body, segmented = with_segments(with_equipment(body, reader, told), reader, told)
     check_count(body.lines, table)
     costs = cost_rows_of(table.costs, settled_mark(numbers_of(body.lines), wanted.decimal), told) if table.costs else ()
     names = fit_names([*(line.name() for line in body.lines if line.kind not in ('contribution', 'forbid')

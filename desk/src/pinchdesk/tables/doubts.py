@@ -169,9 +169,13 @@ def open_pairs(lines: Sequence[Line], sides: Mapping[int, Side], told: Told) -> 
 def said_side(line: Line) -> str:
     """What a row, its title or its name (`H1`) says of its side; empty where none does."""
     section = line.section.side.value if line.section and line.section.side else ''
+    return line.kind or section or side_of_name(line)
+
+
+def side_of_name(line: Line) -> str:
+    """What the name of a row says of its side, as `H1` or `Cold 2`; empty where it says nothing."""
     numbered = re.search('[0-9]', line.name())
-    named = next((side for side, name in RUNS.items() if numbered and name.fullmatch(line.name())), '')
-    return line.kind or section or named
+    return next((side for side, name in RUNS.items() if numbered and name.fullmatch(line.name())), '')
 
 
 def as_case(table: Table) -> tuple[bytes, ...]:

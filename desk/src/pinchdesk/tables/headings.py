@@ -27,7 +27,9 @@ LONGEST = 200
 SIGN = re.compile(r'.*[(\[/,]\s*([^\w\s()\[\]/,.:;–—-]+)\s*[)\]]?\s*|.*?([%‰°€$£¥]+)\s*')
 # A sign of money belongs to the unit behind it: `Price €/MWh`.
 MONEY = re.compile('[€$£¥]')
-EMPTY = frozenset(('', '-', '–', '—', '--', '---', 'n/a', 'N/A', 'na', '.', '(var)', '(variable)', 'variable'))
+# What stands where the heat of a utility is still to be found.
+VARIABLE = frozenset(('(var)', '(variable)', 'variable', 'var', 'var.'))
+EMPTY = frozenset(('', '-', '–', '—', '--', '---', 'n/a', 'N/A', 'n.a.', 'na', '.', '?', '(?)')) | VARIABLE
 CLOSING = {')': '(', ']': '['}
 
 

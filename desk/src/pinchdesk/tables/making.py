@@ -14,14 +14,14 @@ from ..formats.shown import Shown, decimal
 from .blocks import Blocks
 from .cells import CellReader, Told
 from .conversion import Converted, Wanted
-from .doubts import below_titles, note_words, open_pairs, two_units, units_in_words
+from .doubts import below_titles, note_words, open_pairs, side_of_name, two_units, units_in_words
 from .least_difference import half, is_bare, said_difference
 from .own_units import ExactNumbers, in_own_units, whole
 from .prices import PriceFault, PriceUnit, Priced, priced
 from .range_segments import SegmentsOfRanges
 from .ranged import RangeRow, without_ranges
 from .rows import Body, Line
-from .segmented import SegmentRows, fit_segments
+from .segmented import SegmentRows, fit_segments, temperature
 from .sources import Entries
 from .units import Kind
 from .utility_prices import PriceReader
@@ -47,6 +47,7 @@ class Maker:
         self.costs = costs
 
     def made(self, body: Body, names: dict[str, str]) -> Converted:
+        self.entries.spread, self.entries.trusted = spread_of(body.lines, self.reader)
         for line in body.lines:
             self.take(line)
         for ranged in self.segments_of_ranges.wholes():
@@ -295,3 +296,18 @@ class Maker:
             row = self.priced[0][0]
             raise self.told.table.refusal(row, None, 'there are prices, and no heater with one: add the heater')
         self.told.once('no heater is given: HOT is added, at the price 1')
+
+
+def spread_of(lines: Sequence[Line], reader: CellReader) -> tuple[tuple[Fraction, Fraction] | None, bool]:
+    """The least and the greatest temperature of all streams, None where one is not known; and whether there are hot and
+    cold ones by their names, as H1 and C1, and each runs as its name says."""
+    ends = [[temperature(line, heading, reader) for heading in (Heading.SUPPLY, Heading.TARGET)] for line in lines
+            if line.is_stream]
+    known = [end for pair in ends for end in pair if end is not None]
+    spread = (min(known), max(known)) if known and len(known) == 2 * len(ends) else None
+    said = [(side_of_name(line), supply - target) for line, (supply, target) in zip(
+        (line for line in lines if line.is_stream), ends) if supply is not None and target is not None
+        and supply != target]
+    named = [(side, fall) for side, fall in said if side]
+    agreed = all((side == 'hot') == (fall > 0) for side, fall in named)
+    return spread, agreed and {side for side, _ in named} == {'hot', 'cold'}

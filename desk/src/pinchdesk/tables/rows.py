@@ -8,10 +8,10 @@ from dataclasses import dataclass, replace
 
 from .blocks import Blocks, TableBlock
 from .cells import Told
-from .headings import EMPTY, KINDS, Words, bracketed, heading_of, is_comment, is_number, squeezed
+from .headings import EMPTY, KINDS, VARIABLE, Words, bracketed, heading_of, is_comment, is_number, squeezed
 from .layouts import Layout
 from .numbers import NoNumber, numeral_of
-from .sections import Section, kind_of, kind_of_name, section_of
+from .sections import UTILITY_NAME, Section, kind_of, kind_of_name, section_of
 from .spreadsheet import Cell, TableRow, letters
 from .units import Kind
 from .vocabulary import Heading
@@ -24,6 +24,8 @@ SUM = re.compile(rf'{SUM_WORDS}\b.*|[Σ∑].*', re.I)
 SUM_ALONE = re.compile(rf'(?:{SUM_WORDS}|min|max|minimum|maximum|[Σ∑])[\s.:]*', re.I)
 # What a spreadsheet writes in place of a value.
 ERROR = re.compile(r'#[A-Z0-9/]+[!?]|#N/A|#NV')
+# `1) design case` below a table.
+FOOTNOTE = re.compile(r'[0-9]{1,2}\)\s*[^\W\d]')
 LONGEST = 120
 BESIDE_HEADING, LEGEND = 'beside a heading', 'a legend'
 
@@ -214,7 +216,10 @@ def headed_line(row: TableRow, layout: Layout, section: Section | None, told: To
         told.fault(row.number, column, f'`{text}` is not a kind: use hot, cold, heater, cooler, contribution or forbid')
         return None
     line = Line(row, kind or '', layout.columns, layout, section)
-    return replace(line, kind=utility_kind(line))
+    found = utility_kind(line)
+    if found == 'utility' and not line.kind and is_unsized_utility(line):
+        told.note(row.number, None, f'`{shortened(line.name())}` has neither a CP nor a duty: it is taken as a utility')
+    return replace(line, kind=found)
 
 
 def utility_kind(line: Line) -> str:
@@ -235,7 +240,19 @@ def utility_kind(line: Line) -> str:
     if named and not priced and not line.has(Heading.TARGET):
         # A number beside `Hot utility` may be a temperature, or what the plant needs.
         return ''
-    return named or ('utility' if priced and not line.has(Heading.MASS) else '')
+    return named or ('utility' if (priced or is_variable(line) or is_unsized_utility(line)) and not line.has(
+        Heading.MASS) else '')
+
+
+def is_unsized_utility(line: Line) -> bool:
+    """Whether a row without a CP and a duty has the name of a utility, as `Steam`."""
+    sized = any(line.has(heading) for heading in (Heading.CP, Heading.LOAD, Heading.MASS))
+    return not sized and line.has(Heading.TARGET) and UTILITY_NAME.fullmatch(line.name()) is not None
+
+
+def is_variable(line: Line) -> bool:
+    """Whether a row says that its CP or its duty is what is still to be found, as that of a utility."""
+    return any(line.cell(heading).text in VARIABLE for heading in (Heading.CP, Heading.LOAD))
 
 
 def has_numbers(line: Line) -> bool:
@@ -253,7 +270,8 @@ def why_passed(line: Line, told: Told, below: bool) -> str:
         return why_comment(line, told)
     if all(cell.text in EMPTY and cell.number is None and not cell.fault for cell in filled):
         return 'a note'
-    if len(filled) == 1 and filled[0].number is None and not filled[0].fault and not re.match('[0-9]', filled[0].text):
+    if len(filled) == 1 and filled[0].number is None and not filled[0].fault and (
+            not re.match('[0-9]', filled[0].text) or FOOTNOTE.match(filled[0].text)):
         return 'a note'
     if line.kind in ('contribution', 'forbid'):
         return ''

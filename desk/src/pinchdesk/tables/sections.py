@@ -39,10 +39,17 @@ EQUIPMENT = frozenset('exchanger exchangers hx equipment apparatus apparat appar
                       'column warmeubertrager warmetauscher warmeaustauscher echangeur echangeurs intercambiador '
                       'intercambiadores scambiatore scambiatori appareil equipo apparecchiatura'.split())
 # Names of utilities that give heat, or take it.
-GIVING = re.compile(r'steam|dampf|vapeur|vapore?\b|furnace|fired|flue|rauchgas|\bfum|hot\s*oil|thermal\s*oil|'
-                    r'thermo[oö]l|hot\s*water|hei(?:ß|ss)|four\b|horno|forno|boiler|kessel', re.I)
+GIVING = re.compile(r'steam|^st[0-9]*$|^[hml]ps$|dampf|vapeur|vapore?\b|furnace|fired|flue|rauchgas|\bfum|hot\s*oil|'
+                    r'thermal\s*oil|thermo[oö]l|hot\s*water|hei(?:ß|ss)|four\b|horno|forno|boiler|kessel', re.I)
 TAKING = re.compile(r'cooling|\bc\.?w\.?[0-9]*\b|\bair\b|brine|sole\b|chill|refrig|kühl|kuehl|kalt|refroid|glac|'
                     r'enfriam|raffredd|river|sea\s*water|\bluft\b|glycol|\baria\b|\baire\b|cold', re.I)
+# What is called so, and has neither a CP nor a duty, is a utility.
+UTILITY_NAME = re.compile(r'(?:[hmlvi]p[\s-]+|(?:very[\s-]+)?(?:high|medium|low)[\s-]*(?:pressure)?[\s-]+|'
+                          r'saturated\s+)?'
+                          r'steam(?:[\s,(]*[0-9][0-9.,]*\s*(?:bar|psi|kpa|mpa|atm|kg/cm)[a-z0-9²]*\)?)?|[hml]ps|'
+                          r'cooling\s+water|c\.?\s?w\.?[0-9]?|chilled\s+water|dampf|heizdampf|kühlwasser|vapeur|'
+                          r'eau\s+de\s+refroidissement|vapor\s+de\s+agua|agua\s+de\s+(?:enfriamiento|refrigeración)|'
+                          r'vapore|acqua\s+di\s+raffreddamento', re.I)
 RAISED = re.compile(r'rais|gener|bfw|boiler\s*feed|feed\s*water|erzeug|produ', re.I)
 
 

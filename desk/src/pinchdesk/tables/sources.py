@@ -12,19 +12,19 @@ from ..formats.cost_rows import Film, Measured, Overall
 from ..formats.limits import CONTRIBUTION, CP, HEAT, LOAD, TEMPERATURE, Limit, fitting_scale, outside
 from ..formats.shown import decimal
 from .cells import CellReader, Entered, Told
+from .doubts import side_of_name
 from .headings import KINDS
 from .own_units import ExactSource
 from .roundings import RoundingSpan, span_of
 from .rows import Line, shortened
-from .sections import side_of_utility
+from .sections import RAISED, side_of_utility
+from .segmented import temperature
 from .units import Kind, size_of
 from .vocabulary import Heading, squeezed
 
 # Headings of a CP that are said of a specific heat too.
 SPECIFIC_TOO = frozenset(('cp', 'heatcapacity', 'thermalcapacity', 'capacitethermique', 'capacidadcalorifica',
                           'capacitatermica', 'capacitecalorifique'))
-# How headings of a change begin, which is below 0 of a stream that gives heat: `ΔH`, `delta H`.
-CHANGES = frozenset(('dh', 'de', 'dq'))
 # What marks a row as left out elsewhere.
 LEFT_OUT = re.compile(r'//|--|~~|[%!;]|/\*|<!|rem\b', re.I)
 # A contribution that is that of the case, as simulators call it.
@@ -45,6 +45,9 @@ class Entries:
         self.duties: list[tuple[Line, Side, Entered]] = []
         self.heats: list[tuple[Limit, Fraction]] = []
         self.too_large = False
+        # The least and the greatest temperature of all streams, and whether their names, as H1, say which way they run.
+        self.spread: tuple[Fraction, Fraction] | None = None
+        self.trusted = False
         # What was made of a mass flow, by the row and the other heading.
         self.products: dict[tuple[int, Heading], Fraction] = {}
 
@@ -158,6 +161,9 @@ class Entries:
         row = line.row.number
         if supply == target and not line.kind and line.section and line.section.side:
             return line.section.side
+        if supply == target and not line.kind and self.named_side(line):
+            self.told.note(row, line.at(Heading.NAME), f'`{line.name()}` is {self.named_side(line)} by its name')
+            return Side(self.named_side(line))
         if supply == target and not line.kind:
             self.told.fault(row, None, 'supply and target are the same: a column `kind` has to say hot or cold, or '
                             'heater or cooler where it is a utility')
@@ -167,6 +173,11 @@ class Entries:
             self.told.fault(row, line.at(Heading.TARGET), f'a {line.kind} stream runs the other way')
             return None
         return Side(line.kind) if line.kind else runs
+
+    def named_side(self, line: Line) -> str:
+        """The side that the name of a row says, as `Hot 3`, or `H3` where the names of the others say it too."""
+        plain = line.name()[:1].upper() + line.name()[1:].lower()
+        return side_of_name(line) if self.trusted or plain.startswith(('Hot', 'Cold')) else ''
 
     def load(self, line: Line) -> int | None:
         """The load of a latent stream, in W."""
@@ -204,12 +215,11 @@ class Entries:
                 self.told.fault(line.row.number, line.at(Heading.LOAD), what)
 
     def gives_above(self) -> bool:
-        """Whether all duties above 0 are what hot streams give, where a kind or a title says of each which it is."""
-        said = all(line.kind or line.section and line.section.side for line, _, _ in self.duties)
-        changes = any(squeezed(self.reader.headed(line.row.number, line.columns[Heading.LOAD])[1])[:2] in CHANGES
-                      for line, _, _ in self.duties)
-        return said and not changes and all((duty.value < 0) == (side is Side.COLD) for _, side, duty in self.duties
-                                            if duty.value)
+        """Whether all duties above 0 are what hot streams give, where a kind, a title or a name says of each which it
+        is."""
+        said = all(line.kind or line.section and line.section.side or self.trusted and side_of_name(line)
+                   for line, _, _ in self.duties)
+        return said and all((duty.value < 0) == (side is Side.COLD) for _, side, duty in self.duties if duty.value)
 
     def flow(self, line: Line, span: int, side: Side | None) -> int | None:
         """The CP of a sensible stream in 10 W/K: that of its row, or its duty over its span."""
@@ -322,12 +332,24 @@ class Entries:
                                 'to say heater or cooler')
                 return None
             side = runs
+        if side is None and level is not None:
+            side = self.side_beyond(line)
         if side is None:
             title = f'it stands below `{shortened(line.section.text)}`' if line.section else 'it is a utility'
             self.told.fault(line.row.number, None, f'{title}: a column `kind` has to say heater or cooler, or hot or '
                             'cold')
             return None
         return replace(line, kind='heater' if side is Side.HOT else 'cooler')
+
+    def side_beyond(self, line: Line) -> Side | None:
+        """The side of a utility that is hotter than all streams, from which none can give it heat, or colder."""
+        level = temperature(line, Heading.SUPPLY, self.reader)
+        raised = RAISED.search(line.name()) is not None
+        if level is None or raised or self.spread is None or self.spread[0] <= level <= self.spread[1]:
+            return None
+        side, way = (Side.HOT, 'hotter') if level > self.spread[1] else (Side.COLD, 'colder')
+        self.told.note(line.row.number, None, f'{line.name()} is a {side.value} utility: it is {way} than all streams')
+        return side
 
     def level(self, line: Line) -> int | None:
         """The one temperature of a utility, or that at which one with a range enters; of one that is to have a level

@@ -68,7 +68,8 @@ class Heading(enum.Enum):
 MEANINGS: dict[str, Heading] = {word: heading for heading in Heading for word in heading.value.split()}
 # Words that say nothing beside a heading: `Stream supply temperature`, `Température d'entrée`, `T in`.
 FILLING = frozenset('stream streams process of the de d di del della dell du des la le el il lo l der die das a value '
-                    'strom stromes flux corriente corrente total calculated calc'.split())
+                    'strom stromes flux corriente corrente total calculated calc added removed '
+                    'exchanged transferred net'.split())
 # Headings that speak of another stream than that of the row, as simulators name what leaves an exchanger.
 OF_OTHERS = frozenset('outletstream outstream streamout productstream prodstream'.split())
 WARM = frozenset('t temp temperature temperatur temperatura temperatures'.split())

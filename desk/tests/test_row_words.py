@@ -1,0 +1,80 @@
+"""What rows say in words is taken where it has one meaning, and refused where something else contradicts it."""
+from __future__ import annotations
+
+import pytest
+from further_tables import BOILING, FOOTNOTES, LATENT, QUESTIONS, RANKINE, UNISIM, UNSIZED
+from tabled import made, refusal, streams
+
+from pinchdesk.tables.convert import Wanted
+
+HEAD = 'Stream;Tin (°C);Tout (°C);CP (kW/K);Q (kW)\nH1;170;60;3;\nC1;20;135;2;\n'
+NAMED = HEAD + '{};120;120;;100\n'
+OPEN = 'a column `kind` has to say'
+
+
+@pytest.mark.parametrize('name, side', [('H2', 'hot'), ('C2', 'cold'), ('Hot 7', 'hot'), ('cold-2', 'cold')])
+def test_a_latent_stream_has_the_side_of_its_name(name: str, side: str) -> None:
+    assert streams(NAMED.format(name))[-1][0] == side
+    assert any(f'`{name}` is {side} by its name' in note for note in made(NAMED.format(name)).notes)
+
+
+def test_a_name_says_nothing_where_others_contradict_it_or_none_agrees() -> None:
+    assert OPEN in refusal(NAMED.format('H2').replace('C1;20;135', 'C1;135;20'))
+    assert OPEN in refusal(NAMED.format('C3').replace('H1;', 'Effluent;'))
+    assert OPEN in refusal(NAMED.format('H')) and OPEN in refusal(NAMED.format('Heptane'))
+
+
+def test_signs_of_duties_are_taken_either_way_where_names_or_kinds_agree() -> None:
+    assert 'what a stream gives' in refusal(RANKINE.replace('H1,', 'A,'), Wanted('10 °F'))
+    assert 'what a stream gives' in refusal(RANKINE.replace('3.0', '-3.0'), Wanted('10 °F'))
+
+
+@pytest.mark.parametrize('old, new', [
+    ('Cooler"\n"E-101"', 'Hot"\n"E-101"'), ('"170.0000","60.0000"', '"60.0000","170.0000"'),
+    ('"330.0000"', '""'), ('"Heater"\n"E-103"', '"Cooler"\n"E-103"')])
+def test_heaters_and_coolers_are_streams_only_where_all_of_them_are(old: str, new: str) -> None:
+    assert old in UNISIM and refusal(UNISIM.replace(old, new))
+
+
+@pytest.mark.parametrize('name', ['CW', 'Steam', 'MP steam', 'Steam (40 bar)', 'HP-Steam', 'Kühlwasser', 'LPS'])
+def test_a_row_without_a_size_is_a_utility_where_its_name_is_that_of_one(name: str) -> None:
+    table = made(HEAD + f'{name};290;290;;\n')
+    assert [utility.level for utility in table.case.utilities] == [2900]
+    assert any('neither a CP nor a duty: it is taken as a utility' in note for note in table.notes)
+
+
+@pytest.mark.parametrize('name', ['H2', 'Condensate', 'Steam condensate', 'Vapor', 'Cooling water return'])
+def test_a_stream_without_a_size_is_refused(name: str) -> None:
+    assert refusal(HEAD + f'{name};290;290;;\n')
+    assert refusal(HEAD + f'{name};90;30;?;?\n')
+
+
+def test_a_utility_of_no_known_name_has_the_side_that_its_level_leaves() -> None:
+    table = HEAD + 'X;{};{};(var);(var)\n'
+    assert [utility.side.value for utility in made(table.format(171, 171)).case.utilities] == ['hot']
+    assert [utility.side.value for utility in made(table.format(19, 19)).case.utilities] == ['cold']
+    assert OPEN in refusal(table.format(170, 170)) and OPEN in refusal(table.format(20, 20))
+    assert OPEN in refusal(table.replace('X;', 'BFW;').format(300, 300))
+
+
+def test_what_boils_is_cold_and_what_condenses_is_hot() -> None:
+    assert 'a hot stream does not do that' in refusal(BOILING.replace('Reboiler,cold', 'Reboiler,hot'))
+    assert streams(BOILING.replace('Reboiler,cold', 'Reboiler,'))[-2][0] == 'cold'
+    assert 'cold' in {row[0] for row in streams(BOILING.replace('boiling', 'isothermal'))[-2:]}
+    assert refusal(BOILING.replace('boiling', 'bubbling'))
+
+
+def test_a_mark_is_passed_over_where_its_footnote_names_no_other_unit() -> None:
+    assert '`*`' in ' '.join(made(FOOTNOTES).notes)
+    for old, new in (('* limited by freezing\n', ''), ('limited by freezing', 'in K'), ('1) design case', '3) of 2026'),
+                     ('330¹⁾', '330²')):
+        assert refusal(FOOTNOTES.replace(old, new))
+
+
+def test_a_bracket_at_a_temperature_is_no_sign() -> None:
+    assert refusal(HEAD.replace('170', '(170)')) and refusal(HEAD.replace('3;', '(3);'))
+
+
+def test_the_sizes_of_utilities_are_not_those_of_streams() -> None:
+    assert [utility.name for utility in made(QUESTIONS).case.utilities] == []
+    assert len(made(UNSIZED).case.streams) == 4 and len(made(LATENT).case.streams) == 6
