@@ -177,6 +177,45 @@ C2;116;260;6,08;500
 Steam;270;270;;3000
 Cooling water;38;82;;1000
 '''
+FRENCH_TO_BE = '''Pincement : 10 °C;;;;;
+Flux à refroidir;;;;;
+Nom;Débit massique (kg/s);Cp (kJ/kg.K);T initiale (°C);T finale (°C);Puissance (kW)
+Effluent;1,5;2;170;60;330
+Tête;1;1,5;150;30;180
+Flux à réchauffer;;;;;
+Nom;Débit massique (kg/s);Cp (kJ/kg.K);T initiale (°C);T finale (°C);Puissance (kW)
+Charge;1;2;20;135;230
+Recyclage;2;2;80;140;240
+Total;;;;;980
+'''
+TWO_DUTIES = '''Equipment,Service,Temp. in (°C),Temp. out (°C),Cooling duty (kW),Heating duty (kW)
+E-101,Effluent cooler,170,60,330,
+E-102,OVHD condenser,150,30,180,
+E-103,Feed preheater,20,135,,230
+E-104,Recycle heater,80,140,,240
+Total,,,,510,470
+'''
+REQUIRED = '''Stream;Supply, °C;Target, °C;Heat available, kW;Heat required, kW
+H1;170;60;330;-
+H2;150;30;180;-
+C1;20;135;0;230
+C2;80;140;0;240
+Sum;;;510;470
+'''
+CURVES: Rows = [['H1 (hot)', None, None, 'C1 (cold)', None], ['T (°C)', 'H (kW)', None, 'T (°C)', 'H (kW)'],
+                [170, 510, None, 20, 0], [100, 300, None, 100, 160], [60, 0, None, 140, 400]]
+HEAT_FLOWS = '''Heating curve of stream CRUDE (cold);;;;
+Name;Temperature [C];Heat Flow [kW];Vapour Fraction;Pressure [kPa]
+CRUDE;20,0;0,0;0,000;500
+CRUDE;80,0;120,0;0,000;500
+CRUDE;80,0;220,0;0,500;500
+CRUDE;140,0;460,0;1,000;500
+;;;;
+Cooling curve of stream EFFLUENT;;;;
+Name;Temperature [C];Heat Flow [kW];Vapour Fraction;Pressure [kPa]
+EFFLUENT;170,0;330,0;0,000;500
+EFFLUENT;60,0;0,0;0,000;500
+'''
 FURTHER = {
     'Douglas, published': PlantTable(DOUGLAS, 20.514978, 17.584267, '10 °F', .5),
     'HYSYS, heaters side by side': PlantTable(HYSYS_HEATERS, 20, 60),
@@ -194,4 +233,9 @@ FURTHER = {
     'Rankine': PlantTable(RANKINE, SEIDER_HOT, SEIDER_COLD, '10 °F', 3),
     'brackets of accountants': PlantTable(IN_BRACKETS, 20, 60), 'boiling': PlantTable(BOILING, 112.5, 202.5),
     'footnotes': PlantTable(FOOTNOTES, 20, 60),
-    '4SP1 with utilities, published': PlantTable(UNSIZED, 127.68, 250.14)}
+    '4SP1 with utilities, published': PlantTable(UNSIZED, 127.68, 250.14),
+    'French, to be cooled and heated': PlantTable(FRENCH_TO_BE, 20, 60, None),
+    'duties in two columns': PlantTable(TWO_DUTIES, 20, 60),
+    'available and required': PlantTable(REQUIRED, 20, 60),
+    'heating curves side by side': PlantTable(workbook(CURVES), 60, 170),
+    'heating curves with heat flows': PlantTable(HEAT_FLOWS, 130, 0)}

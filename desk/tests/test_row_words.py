@@ -2,8 +2,9 @@
 from __future__ import annotations
 
 import pytest
-from further_tables import BOILING, FOOTNOTES, LATENT, QUESTIONS, RANKINE, UNISIM, UNSIZED
-from tabled import made, refusal, streams
+from further_tables import (BOILING, CURVES, FOOTNOTES, LATENT, QUESTIONS, RANKINE, REQUIRED, TWO_DUTIES, UNISIM,
+                            UNSIZED)
+from tabled import made, refusal, streams, workbook
 
 from pinchdesk.tables.convert import Wanted
 
@@ -78,3 +79,32 @@ def test_a_bracket_at_a_temperature_is_no_sign() -> None:
 def test_the_sizes_of_utilities_are_not_those_of_streams() -> None:
     assert [utility.name for utility in made(QUESTIONS).case.utilities] == []
     assert len(made(UNSIZED).case.streams) == 4 and len(made(LATENT).case.streams) == 6
+
+
+def test_the_column_of_a_duty_says_which_way_its_stream_runs() -> None:
+    assert [row[0] for row in streams(TWO_DUTIES)] == ['hot', 'hot', 'cold', 'cold']
+    assert 'runs the other way' in refusal(TWO_DUTIES.replace('170,60', '60,170'))
+    assert refusal(TWO_DUTIES.replace('330,\n', '330,330\n')) and refusal(TWO_DUTIES.replace('330,\n', ',\n'))
+    assert refusal(TWO_DUTIES.replace('Heating duty (kW)', 'Heating duty (MW)'))
+    kinds = REQUIRED.replace('Stream', 'Kind;Stream').replace('H', 'hot;H').replace('C', 'cold;C')
+    assert kinds.count('hot;H') == 4 and refusal(kinds)
+    latent = streams(TWO_DUTIES.replace('150,30', '150,150'))[1]
+    assert latent[0] == 'hot' and latent[-1] == 180_000
+
+
+def test_a_curve_has_the_name_of_its_title() -> None:
+    assert [row[:2] for row in streams(workbook(CURVES))] == [
+        ('hot', 'H1-1'), ('hot', 'H1-2'), ('cold', 'C1-1'), ('cold', 'C1-2')]
+    below = ('Stream: Feed (cold)\nT (°C);H (kW)\n20;0\n100;160\n140;400\n\n'
+             'Cooling curve of S2\nT (°C);H (kW)\n170;9\n60;0\n')
+    assert [row[:2] for row in streams(below)] == [('cold', 'Feed-1'), ('cold', 'Feed-2'), ('hot', 'S2')]
+    for old, new in ((' (cold)', ''), ('Stream: Feed (cold)', 'Cold streams'), ('Stream: Feed (cold)\n', ''),
+                     (' (cold)', ' (hot and cold)'), ('Cooling curve of S2', 'Cooling curve of S2 (cold)')):
+        assert refusal(below.replace(old, new))
+
+
+@pytest.mark.parametrize('said', ['Pincement minimal : 10 °C', 'minimale Temperaturdifferenz 10 K', 'Grädigkeit: 10 K',
+                                  'Diferencia mínima de temperatura: 10 °C', 'Écart minimal de 10 K',
+                                  'Differenza minima di temperatura = 10 °C', 'minimum approach 10 K'])
+def test_a_title_has_the_least_difference_in_five_languages(said: str) -> None:
+    assert made(f'{said}\n{HEAD}', Wanted()).case.contribution == 50

@@ -7,6 +7,7 @@ from dataclasses import dataclass, replace
 from functools import cached_property
 from itertools import groupby
 
+from .curve_titles import curve_title, is_unnamed_curve, with_name
 from .headings import has_unit, heading_of, is_comment, is_number, known_in
 from .layouts import OF_UTILITIES, Draft, Layout, with_first
 from .sections import Section, is_equipment, kind_of, section_of
@@ -164,6 +165,9 @@ def is_title(row: TableRow, draft: Draft) -> bool:
     texts = [row.cell(column).text for column in ends]
     open_ends = all(texts) and not all(is_unit(text.strip('()[] '), Kind.TEMPERATURE) for text in texts)
     cells = [cell for _, cell in row.filled()]
+    if len(cells) == 1 and not any(heading in NAMING for heading in draft.headings.values()):
+        # Of a curve without names a text alone is the title of the next one.
+        open_ends = False
     return not open_ends and not any(is_number(cell) or kind_of(cell.text) == 'forbid' for cell in cells)
 
 
@@ -205,6 +209,8 @@ def is_named(band: Band, group: range) -> bool:
     """Whether columns have one of names, with a heading or without."""
     if any(band.draft.headings.get(column) in NAMING for column in group):
         return True
+    if is_unnamed_curve(band.draft, group):
+        return curve_title(cut(band.above[-1], group) if band.above else None) is not None
     first = min(column for column in band.draft.headings if column in group)
     return any(row.cell(column).text and not is_number(row.cell(column)) for row in band.rows
                for column in range(group.start, first))
@@ -215,7 +221,7 @@ def check_names(table: Table, layout: Layout, sure: bool) -> None:
     column = layout.columns[Heading.NAME]
     title = layout.titles.get(column, '')
     strange = layout.named and title and heading_of(title)[0] is None
-    if strange and (not sure or is_equipment(title)):
+    if strange and (not sure or is_equipment(title)) and not layout.sides:
         raise table.refusal(layout.head, column, f'a further table, of `{title}`: head the column `Stream` where it is '
                             'one of streams, or take the table out')
 
@@ -225,15 +231,25 @@ def block_of(table: Table, band: Band, group: range, beside: bool, again: bool, 
     rows = [cut(row, group) for row in band.rows] if beside else band.rows
     rows = [row for row in rows if any(not cell.empty for cell in row.cells)]
     draft = band.draft.within(group) if beside else band.draft
+    titles = [cut(row, group) if beside else row for row in band.above]
+    named = curve_title(titles[-1] if titles else None) if is_unnamed_curve(draft, group) else None
+    rows = with_name(draft, rows, named.name) if named else draft.with_one_duty(rows)
     layout = draft.layout(rows)
     check_names(table, layout, again or first)
-    titles = [cut(row, group) if beside else row for row in band.above]
     if titles and any(titles[-1].filled()):
         layout = with_first(layout, titles[-1], table.merged)
-    section = next((found for found in map(title_section, reversed(titles)) if found), None) or layout.section
+    section = said_of_curve(titles) if layout.curve else None
+    titled = next((found for found in map(title_section, reversed(titles)) if found), None)
+    section = section or titled or layout.section
     if section is None and table.more:
         section = section_of(table.sheet_of(band.draft.row.number))
     return TableBlock(layout, tuple(rows), section, again)
+
+
+def said_of_curve(titles: Sequence[TableRow]) -> Section | None:
+    """The side that the title right above a curve says, as `Cooling curve of S1`."""
+    title = curve_title(titles[-1]) if titles else None
+    return title.section if title else None
 
 
 def title_section(row: TableRow) -> Section | None:

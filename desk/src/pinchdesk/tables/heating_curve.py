@@ -54,7 +54,7 @@ def with_curves(blocks: Blocks, body: Body, mark: str, tolerance: Fraction, told
     if not any(block.layout.curve for block in blocks.blocks):
         return blocks, body
     # The targets of pieces are in columns of their own, which the table has not.
-    width = max(len(row.cells) for row in told.table.rows)
+    width = max(len(row.cells) for row in (*told.table.rows, *(line.row for line in body.lines)))
     curved = [block.layout for block in blocks.blocks if block.layout.curve]
     layouts = {place_of(layout): with_target(layout, width + at) for at, layout in enumerate(curved)}
     told.origins |= {width + at: layout.columns[Heading.SUPPLY] for at, layout in enumerate(curved)}

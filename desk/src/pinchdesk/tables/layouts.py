@@ -9,7 +9,7 @@ from dataclasses import dataclass, field, replace
 from .headings import (EMPTY, KINDS, Words, bracketed, fits, has_unit, heading_of, is_comment, is_note_column,
                        is_number, splits, unknown_headings)
 from .sections import COLD, HOT, Section, kind_of, section_of
-from .spreadsheet import Table, TableRow
+from .spreadsheet import NOTHING, Cell, Table, TableRow
 from .units import Kind, is_multiple, is_unit
 from .vocabulary import OPEN_PAIRS, PAIRS, WARM, Heading, squeezed, words
 
@@ -27,7 +27,14 @@ TEXTS = (Heading.NAME, Heading.NUMBER, Heading.KIND)
 SIZES = (Heading.CP, Heading.LOAD, Heading.MASS)
 OF_UTILITIES = (Heading.PRICE, Heading.LEAST, Heading.MOST)
 # What heads the heat of a heating curve, and what no table of such curves has.
-ENTHALPY = frozenset('h enthalpy enthalpie enthalpiestrom entalpia enthalpyflow heatcontent cumulativeenthalpy'.split())
+ENTHALPY = frozenset('h enthalpy enthalpie enthalpiestrom entalpia enthalpyflow heatcontent cumulativeenthalpy heatflow'
+                     .split())
+# Two columns of duties, one of what is taken from hot streams and one of what cold ones need.
+DUTIES = {side: frozenset(named.split()) for side, named in (
+    ('hot', 'coolingduty coolingload heatavailable heatreleased heatremoved heattoremove heatgiven '
+            'kuhlleistung kuhllast kuhlbedarf chaleurcedee calorcedido caloreceduto heatrejected'),
+    ('cold', 'heatingduty heatingload heatrequired heatrequirement heatabsorbed heatadded heattoadd heatneeded '
+             'heizleistung heizlast heizbedarf chaleurrecue calorabsorbido caloreassorbito heatdemand'))}
 NO_CURVE = (Heading.TARGET, Heading.CP, Heading.MASS, Heading.SPECIFIC, Heading.LATENT, *OF_UTILITIES)
 
 
@@ -37,7 +44,7 @@ class Layout:
     words there that are neither headings nor units of a number; `named` is False where the numbers of the streams
     stand in for names, `twins` has columns that say the same in another unit, `section` what the heading of the names
     says of the streams, `open_pair` the titles of a supply and a target that may be the other way round; `curve` where
-    its rows are points of heating curves."""
+    its rows are points of heating curves; `sides` has the kind of each row that the column of its duty says."""
 
     columns: Mapping[Heading, int] = field(default_factory=dict)
     units: Mapping[int, str] = field(default_factory=dict)
@@ -49,6 +56,7 @@ class Layout:
     section: Section | None = None
     curve: bool = False
     open_pair: tuple[str, str] | None = None
+    sides: Mapping[int, str] = field(default_factory=dict)
 
     @property
     def headed(self) -> bool:
@@ -82,6 +90,7 @@ class Draft:
         self.beside: list[Words] = []
         # Those below it, as far as they are known.
         self.rows: Sequence[TableRow] = ()
+        self.sides: dict[int, str] = {}
         for column, cell in row.filled():
             heading, unit = heading_of(cell.text)
             if heading:
@@ -150,7 +159,8 @@ class Draft:
                   if column in self.titles and column not in measured and column in columns.values()]
         section = section_of(self.titles.get(columns[Heading.NAME], ''))
         return Layout(columns, self.units, self.titles, tuple(self.heads), (*beside, *self.beside), named, twins,
-                      section, self.is_curve(range(max(self.titles, default=0) + 1)), self.open_pair(columns))
+                      section, self.is_curve(range(max(self.titles, default=0) + 1)), self.open_pair(columns),
+                      self.sides)
 
     def open_pair(self, columns: Mapping[Heading, int]) -> tuple[str, str] | None:
         """The titles of supply and target, where these may be the other way round."""
@@ -194,6 +204,37 @@ class Draft:
             unit = named_with_unit(self.titles[column])[1]
             if unit:
                 self.units.setdefault(column, unit)
+
+    def with_one_duty(self, rows: Sequence[TableRow]) -> list[TableRow]:
+        """The rows with the duties of two columns, one of hot and one of cold streams, in the first of them; each then
+        has the kind that its column says. Rows that have both, as sums, stay."""
+        found = {side: [column for column, title in self.titles.items() if named_with_unit(title)[0] in known]
+                 for side, known in DUTIES.items()}
+        others = {column for column, heading in self.headings.items() if heading is Heading.LOAD}
+        if [len(columns) for columns in found.values()] != [1, 1] or others - {*found['hot'], *found['cold']}:
+            return list(rows)
+        sides = {columns[0]: side for side, columns in found.items()}
+        first, second = sorted(sides)
+        units = {named_with_unit(self.titles[column])[1] or self.units.get(column, '') for column in sides}
+        if len(units) > 1:
+            return list(rows)
+        self.titles[first] = f'{self.titles[first]} | {self.titles.pop(second)}'
+        self.headings[first] = Heading.LOAD
+        self.headings.pop(second, None)
+        self.units.pop(second, None)
+        self.units |= {first: unit for unit in units if unit}
+        return [self.with_duty(row, sides) for row in rows]
+
+    def with_duty(self, row: TableRow, sides: Mapping[int, str]) -> TableRow:
+        """A row with the one duty that it has in the first of these columns."""
+        first, second = sorted(sides)
+        filled = [column for column in sides if not is_nothing(row.cell(column))]
+        if len(filled) != 1:
+            return row
+        self.sides[row.number] = sides[filled[0]]
+        cells = [*row.cells, *[NOTHING] * (second + 1 - len(row.cells))]
+        cells[first], cells[second] = cells[filled[0]], NOTHING
+        return replace(row, cells=tuple(cells))
 
     def tell_specific(self) -> None:
         """Takes a CP whose unit is that of a specific heat, which may stand in a row of its own, as one."""
@@ -273,6 +314,12 @@ class Draft:
         if missing:
             names = ' and none '.join(heading.name.lower() for heading in missing)
             raise self.table.refusal(self.row.number, None, f'no column has the heading {names}')
+
+
+def is_nothing(cell: Cell) -> bool:
+    """Whether there is nothing in a cell, or a 0, beside the column where a duty stands."""
+    return cell.number == 0 or cell.number is None and not cell.fault and (
+        cell.text in EMPTY or re.fullmatch('0(?:[.,]0*)?', cell.text) is not None)
 
 
 def merged_end(table: Table, row: TableRow, column: int) -> int:

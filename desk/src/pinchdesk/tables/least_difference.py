@@ -15,8 +15,12 @@ from .units import Kind, UnknownUnit, unit_of
 
 # What a title calls it: `ΔTmin = 10 °C`, `minimum approach: 20 K`.
 SAID = re.compile(r'.*?(?:(?:[dΔ∆]|delta)\s*[-_]?\s*T\s*[-_,.]?\s*min(?:imum)?\b|'
-                  r'\b(?:minimum|least)\s+(?:temperature\s+)?(?:approach|difference)(?:\s+temperature)?|\bHRAT)'
-                  r'\s*(?:=|:|is|of)?\s*(?P<value>[0-9].*)', re.I)
+                  r'\b(?:minimum|least|minimal)\s+(?:temperature\s+)?(?:approach|difference)(?:\s+temperature)?|\bHRAT|'
+                  r'\b(?:minimale|kleinste)\s+(?:temperatur)?(?:differenz|grädigkeit)|\bgrädigkeit|'
+                  r'\bpincement(?:\s+mini(?:mum|mal))?|\b[ée]cart\s+(?:de\s+temp[ée]rature\s+)?mini(?:mum|mal)|'
+                  r'\bdiferencia\s+m[ií]nima(?:\s+de\s+temperaturas?)?|'
+                  r'\bdifferenza\s+minima(?:\s+di\s+temperatura)?)'
+                  r'\s*(?:=|:|is|of|von|de|di)?\s*(?P<value>[0-9].*)', re.I)
 
 
 def half(difference: str, told: Told) -> tuple[int, Fraction]:

@@ -159,7 +159,7 @@ class BodyReader:
             elif heading_of(layout.titles.get(layout.columns[Heading.NAME], 'name'))[0] is None:
                 title = layout.titles[layout.columns[Heading.NAME]]
                 self.told.once(f'no column has the heading name: {title} is taken')
-            elif layout.columns[Heading.NAME] not in layout.titles:
+            elif layout.columns[Heading.NAME] not in layout.titles and not layout.curve:
                 place = self.told.table.place(layout.head, layout.columns[Heading.NAME])
                 self.told.once(f'no column has the heading name: {place} is taken, which has no heading')
             for words in layout.beside:
@@ -215,7 +215,11 @@ def headed_line(row: TableRow, layout: Layout, section: Section | None, told: To
     if kind is None and len(list(row.filled())) > 1 and not SUM.fullmatch(text) and not is_comment(row):
         told.fault(row.number, column, f'`{text}` is not a kind: use hot, cold, heater, cooler, contribution or forbid')
         return None
-    line = Line(row, kind or '', layout.columns, layout, section)
+    of_duty = layout.sides.get(row.number, '')
+    if of_duty and kind in ('hot', 'cold') and kind != of_duty:
+        told.fault(row.number, layout.columns[Heading.LOAD], f'the duty of a {kind} stream stands below '
+                   f'`{layout.titles[layout.columns[Heading.LOAD]]}`, where {of_duty} ones have theirs')
+    line = Line(row, kind or of_duty, layout.columns, layout, section)
     found = utility_kind(line)
     if found == 'utility' and not line.kind and is_unsized_utility(line):
         told.note(row.number, None, f'`{shortened(line.name())}` has neither a CP nor a duty: it is taken as a utility')

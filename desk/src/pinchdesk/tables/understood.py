@@ -61,6 +61,9 @@ def columns_of(layout: Layout, converted: Converted) -> Iterator[Understood]:
             yield Understood(place, title, meaning, layout.units.get(column, ''))
             continue
         heading = meanings[column]
+        if layout.curve and heading is Heading.NAME and column not in layout.titles:
+            # The title of the curve has the name.
+            continue
         if layout.curve and heading in CURVE:
             yield Understood(place, title, CURVE[heading], layout.units.get(column, '') or usual(heading))
             continue
