@@ -51,7 +51,7 @@ def test_what_was_found_is_reported_with_what_it_rests_on(tmp_path: Path) -> Non
     (tmp_path / 't.csv').write_text(BOTH, encoding='utf-8')
     err = answer('case', '-d', '10', 't.csv', cwd=tmp_path).err
     assert 'row 7: flue-gas is a hot utility from 1500 to 160 °C, held as a stream: it gives 26.8 kW with a CP of ' \
-           '0.02 kW/K; with 0.01 kW/K it is not enough: 13.4 kW are missing; 6.8 kW of that are more than is ' \
+           '0.02 kW/K; with 0.01 kW/K it is not enough: 6.6 kW are missing; 6.8 kW of that are more than is ' \
            'needed' in err
     assert 'row 8: water is a cold utility from 20 to 30 °C' in err and 'HOT stands in for what whole units' in err
 

@@ -8,8 +8,8 @@ from hypothesis import given
 from hypothesis import strategies as some
 
 from pinchdesk import Case, Pinch, Refused, Side, Stream, Utility, read_case
-from pinchdesk.analysis.range_checks import checked_range, checked_ranges, lacking
-from pinchdesk.analysis.range_sizes import least_that, with_sizes
+from pinchdesk.analysis.range_checks import checked_range, checked_ranges, lacking, least_that
+from pinchdesk.analysis.range_sizes import with_sizes
 from pinchdesk.formats.case import ANY_HEAT, Forbid, print_case
 from pinchdesk.formats.comments import Basis, basis_rows, noted
 from pinchdesk.formats.limits import CP
@@ -97,6 +97,38 @@ def test_beside_a_level_the_cost_is_least(pinch: Pinch) -> None:
     assert found(pinch, ranged('WASTE', 800, 400, 40), base=base) == {'WASTE': 0}
 
 
+def test_what_only_rounds_up_on_the_cold_side_needs_no_hot_utility(pinch: Pinch) -> None:
+    """5.5 kW are to be cooled. 0.3 kW are one unit of the water, so that 19 of them take 0.2 kW more than there is: no
+    reason for flue gas, of which a unit has 13.4 kW."""
+    base = read_case('contribution,,50,,,,\nhot,H,1000,500,11,,\n')
+    assert found(pinch, FLUE, ranged('W', 100, 400, 0), base=base) == {'FLUE': 0, 'W': 19}
+
+
+def test_what_the_cold_side_has_to_take_is_a_need_of_the_hot_one(pinch: Pinch) -> None:
+    """Coolant from 10 to 170 °C has to take the 50 kW of a stream from 100 to 50 °C: 1.25 kW/K of it from 10 to 50 °C,
+    where it then takes 150 kW above that. No gas gives these but from 300 to 180 °C."""
+    base = read_case('contribution,,0,,,,\nhot,H,1000,500,100,,\n')
+    case = with_sizes(pinch, base, [ranged('GAS', 3000, 1800, 1, 0), ranged('W', 100, 1700, 0, 0)]).case
+    gas, water = checked_ranges(pinch, case)
+    assert gas.is_least and water.is_least and gas.less_lacking and pinch.targets(case).hot < 1600
+    assert water.heat - gas.heat - 50_000 == pinch.targets(case).hot == gas.lacking
+
+
+@pytest.mark.long
+def test_two_with_a_range_are_sized_together(pinch: Pinch) -> None:
+    """90 kW from 35 to 125 °C, shifted. Of the gas, from 365 to 40 °C, 6 units are needed for the 15 kW above 110 °C,
+    where the oil begins. They have 19.5 kW, so that the oil gives 70.5 kW, 101 units of 0.7 kW, and not all 75 kW."""
+    base = read_case('contribution,,50,,,,\ncold,C,300,1200,100,,\n')
+    oil, gas = ranged('OIL', 1150, 450, 4), ranged('GAS', 3700, 450, 40)
+    assert found(pinch, oil, gas, base=base) == {'OIL': 101, 'GAS': 6}
+
+
+def test_where_a_level_has_a_most_one_unit_less_is_not_enough(pinch: Pinch) -> None:
+    base = read_case('contribution,,50,,,,\ncold,C,200,1200,1000,,\nheater,STEAM,1500,0,500000,30,\n')
+    waste, = checked_ranges(pinch, with_sizes(pinch, base, [ranged('WASTE', 800, 400, 10)]).case)
+    assert (waste.cp, waste.less_lacking and waste.less_lacking.heat, waste.is_least) == (1250, 400, True)
+
+
 def test_gains_are_taken_as_far_as_they_pay(pinch: Pinch) -> None:
     """Raised steam at a price below 0 takes all that is warm enough, and no heat of the heater, which is dearer."""
     base = read_case('contribution,,50,,,,\nhot,H,2000,1000,100,,\nheater,S,2500,0,1000000000000,30,\n')
@@ -124,7 +156,7 @@ def test_several_segments_stay_in_proportion(pinch: Pinch) -> None:
 
 @pytest.mark.parametrize('utilities, base, cause', [
     ([ranged('OIL', 850, 600)], FOUR, 'it is not hot enough'),
-    ([replace(FLUE, most=13_400)], FOUR, 'take a smaller --scale, or a larger `most`'),
+    ([replace(FLUE, most=13_400)], FOUR, '6.6 kW are missing: take a larger'),
     ([ranged('WATER', 800, 900)], FOUR, 'it is not cold enough'),
     ([FLUE], replace(FOUR, utilities=(Utility('STEAM', Side.HOT, 2000, 0, ANY_HEAT, 1, 50),)), 'price as STEAM'),
     ([FLUE, replace(FLUE, name='GAS', parts=ranged('GAS', 12000, 1600).parts)], FOUR, 'the same price as'),

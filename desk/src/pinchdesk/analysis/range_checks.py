@@ -2,12 +2,12 @@
 other utility is on their side, with their sizes and with one unit of CP less."""
 from __future__ import annotations
 
-from collections.abc import Sequence
+from collections.abc import Callable, Sequence
 from dataclasses import dataclass, replace
 
 from ..formats.case import ANY_HEAT, Case, Side, Stream, Utility, parts_of_streams, print_case
 from ..formats.limits import TEMPERATURE
-from ..formats.range_parts import heat_of_parts, leading, range_parts, sized
+from ..formats.range_parts import heat_of_parts, leading, one_less, range_parts, sized
 from ..formats.ranges import Lacking, RangedUtility
 from ..program.answers import Cut
 from ..program.run import Pinch
@@ -63,17 +63,34 @@ def lacking(pinch: Pinch, case: Case, side: Side) -> Lacking | None:
     return Lacking(flow.need, flow.offer)
 
 
-def with_parts(case: Case, changed: Sequence[Stream]) -> Case:
-    """The case with these streams in place of those of their names."""
-    by_name = {stream.name: stream for stream in changed}
-    return replace(case, streams=tuple(by_name.get(stream.name, stream) for stream in case.streams))
+def least_that(holds: Callable[[int], bool], first: int, last: int) -> int:
+    """The least number from the first on for which something holds, where it then holds for all above; the last one
+    where it holds for none below it. Near the first it is found soonest."""
+    step, below = 1, first
+    while below < last and not holds(below):
+        first, below, step = below + 1, min(last, below + step), step * 2
+    last = below
+    while first < last:
+        middle = (first + last) // 2
+        first, last = (first, middle) if holds(middle) else (middle + 1, last)
+    return first
+
+
+def with_parts(case: Case, parts: Sequence[Stream], changed: Sequence[Stream]) -> Case:
+    """The case with these streams in place of some others, or without them."""
+    by_name, gone = {stream.name: stream for stream in changed}, {part.name for part in parts}
+    kept = [by_name.get(stream.name, stream) for stream in case.streams
+            if stream.name in by_name or stream.name not in gone]
+    made = replace(case, streams=tuple(kept))
+    return made if changed else lawful(made)
 
 
 @dataclass(frozen=True)
 class CheckedRange:
     """A utility with a range as the case has it: what lacks beside it, what lacks with one unit of CP less, and by how
     much that is dearer where nothing lacks; of one with other utilities on its side nothing lacks. `spare` is what it
-    gives or takes beyond the need of the case without it."""
+    gives or takes beyond the need of the case without it, and `is_least` whether one unit of CP less is not enough, or
+    is dearer. `flows` is whether the case has a heat flow."""
 
     utility: RangedUtility
     parts: tuple[Stream, ...]
@@ -81,6 +98,8 @@ class CheckedRange:
     less_lacking: Lacking | None
     dearer: int | None
     spare: int
+    is_least: bool
+    flows: bool = True
 
     @property
     def side(self) -> Side:
@@ -99,54 +118,70 @@ class CheckedRange:
         """Its price times its heat, which the cost of the program does not have in it."""
         return self.utility.price * self.heat
 
-    @property
-    def is_least(self) -> bool:
-        """Whether one unit of CP less is not enough, or is dearer."""
-        return (self.less_lacking.heat if self.less_lacking else 0) > self.lacking or (self.dearer or 0) > 0
-
 
 def checked_range(pinch: Pinch, case: Case, utility: RangedUtility) -> CheckedRange:
     """Asks the program what one unit of CP less would do."""
     parts = range_parts(case, utility)
-    side, cp = parts[0].side, leading(parts).cp
-    names = {part.name for part in parts}
-    gone = lawful(replace(case, streams=tuple(stream for stream in case.streams if stream.name not in names)))
-    less = with_parts(case, sized(parts, cp - 1)) if cp > 1 else gone
-    if not is_last(case, utility, side):
-        return CheckedRange(utility, parts, 0, None, dearer_by(pinch, case, less, utility), 0)
-    beside = lacking(pinch, case, side)
-    without, needed = lacking(pinch, needing(gone, side), side), needing(case, side)
-    with_it = beside if needed is case else lacking(pinch, needed, side)
-    served = (without.heat if without else 0) - (with_it.heat if with_it else 0)
-    return CheckedRange(utility, parts, beside.heat if beside else 0, lacking(pinch, less, side), None,
-                        heat_of_parts(parts) - served)
+    if not is_last(case, utility, parts[0].side):
+        return checked_by_cost(pinch, case, utility)
+    side = parts[0].side
+    plant, beside = needing(case, side), lacking(pinch, case, side)
+    without = lacking(pinch, with_parts(plant, parts, ()), side)
+    with_it = lacking(pinch, plant, side) if plant is not case else beside
+    served = heat_of(without) - heat_of(with_it)
+    lacks = lacking(pinch, with_parts(plant, parts, one_less(parts)), side)
+    if lacks is None and plant is not case:
+        begun = forced(pinch, case, parts)
+        with_it = lacking(pinch, begun, side)
+        lacks = lacking(pinch, with_parts(begun, parts, one_less(parts)), side)
+    return CheckedRange(utility, parts, heat_of(beside), lacks, None, heat_of_parts(parts) - served,
+                        heat_of(lacks) > heat_of(with_it))
+
+
+def heat_of(lacks: Lacking | None) -> int:
+    return lacks.heat if lacks else 0
 
 
 def needing(case: Case, side: Side) -> Case:
-    """The case that a utility of this side has to serve: what the hot side has too much the cold one takes, so that the
-    cold streams that are utilities are none of the need for a hot one."""
-    parts = parts_of_streams(case)
-    utilities = {part.name for utility in case.basis.ranges for part in parts.get(utility.name, ())
-                 if side is Side.HOT and part.side is Side.COLD}
-    if not utilities:
-        return case
-    return lawful(replace(case, streams=tuple(stream for stream in case.streams if stream.name not in utilities)))
+    """The case that a utility of this side has to serve: what the hot side has too much the last utility of the cold
+    one takes, so that this is none of the need for a hot one."""
+    last = last_range(case, Side.COLD) if side is Side.HOT else None
+    return with_parts(case, range_parts(case, last), ()) if last else case
+
+
+def forced(pinch: Pinch, case: Case, hot: Sequence[Stream]) -> Case:
+    """The case with the last utility of the cold side as it is without this one of the hot side, less the unit of CP
+    that is only begun: what it takes then it takes whatever there is."""
+    last = last_range(case, Side.COLD)
+    assert last
+    cold, plant = range_parts(case, last), with_parts(case, hot, ())
+    size = least_that(lambda cp: lacking(pinch, with_parts(plant, cold, sized(cold, cp) if cp else ()), Side.COLD)
+                      is None, 0, leading(cold).cp)
+    return with_parts(case, cold, sized(cold, size - 1) if size > 1 else ())
+
+
+def last_range(case: Case, side: Side) -> RangedUtility | None:
+    """The dearest utility with a range of a side that has none at a level but what stands in."""
+    there = [utility for utility in case.basis.ranges if range_parts(case, utility)[0].side is side]
+    levels = [level for level in case.utilities if level.side is side and level.name != STANDING[side]]
+    return max(there, key=lambda utility: utility.price) if there and not levels else None
 
 
 def is_last(case: Case, utility: RangedUtility, side: Side) -> bool:
-    """Whether a utility is the dearest with a range on a side that has none at a level but what stands in."""
-    there = [other for other in case.basis.ranges if range_parts(case, other)[0].side is side]
-    levels = [level for level in case.utilities if level.side is side and level.name != STANDING[side]]
-    return not levels and utility.name == max(there, key=lambda other: other.price).name
+    last = last_range(case, side)
+    return last is not None and last.name == utility.name
 
 
-def dearer_by(pinch: Pinch, case: Case, less: Case, utility: RangedUtility) -> int | None:
-    """By how much a case with less of a utility is dearer; None where one of both has no heat flow."""
-    here, there = pinch.uses(print_case(case)), pinch.uses(print_case(less))
+def checked_by_cost(pinch: Pinch, case: Case, utility: RangedUtility) -> CheckedRange:
+    """A utility with others beside it on its side: what one unit of CP less would cost, or what lacks then."""
+    parts = range_parts(case, utility)
+    less = one_less(parts)
+    here, there = (pinch.uses(print_case(asked)) for asked in (case, with_parts(case, parts, less)))
     if isinstance(here, Cut) or isinstance(there, Cut):
-        return None
-    saved = sum(stream.heat for stream in case.streams) - sum(stream.heat for stream in less.streams)
-    return there.cost - here.cost - utility.price * saved
+        lacks = Lacking(there.need, there.offer) if isinstance(there, Cut) and not isinstance(here, Cut) else None
+        return CheckedRange(utility, parts, 0, lacks, None, 0, lacks is not None, not isinstance(here, Cut))
+    dearer = there.cost - here.cost - utility.price * (heat_of_parts(parts) - heat_of_parts(less))
+    return CheckedRange(utility, parts, 0, None, dearer, 0, dearer > 0)
 
 
 def without_ranges(case: Case) -> Case:

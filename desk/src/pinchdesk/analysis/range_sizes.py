@@ -6,11 +6,14 @@ side never makes more of a utility of that side needed, while the other side tak
 
 Where a side has others too, at a level or with a range, the cheapest is sized first: by the least of the cost that the
 program prints and its own price times its heat, where those that have no size yet are there as levels at their supply.
-This sum is convex in the CP, so that it is least where one unit more and one unit less cost no less."""
+This sum is convex in the CP, so that it is least where one unit more and one unit less cost no less. No sizes at all
+cost less than the first of these sums. Where all together cost more, since a range is worth less than a level at its
+supply, other sizes are tried."""
 from __future__ import annotations
 
-from collections.abc import Callable, Mapping, Sequence
+from collections.abc import Mapping, Sequence
 from dataclasses import dataclass, field, replace
+from itertools import product
 
 from ..errors import Refused
 from ..formats.case import ANY_HEAT, Case, Forbid, Side, Utility, print_case
@@ -22,18 +25,20 @@ from ..formats.segments import SegmentedStream
 from ..formats.shown import Shown
 from ..program.answers import Cut, HeatFlow
 from ..program.run import Pinch
-from .range_checks import STANDING, CheckedRange, checked_ranges, has_level, lacking, lawful, other_side
+from .range_checks import (STANDING, CheckedRange, checked_ranges, has_level, lacking, lawful, least_that,
+                           other_side)
 
 # Beside the utilities of the table a trial has one on each side.
 MOST_SIZED = MOST_UTILITIES - 2
-# How often the sizes that are found by cost are looked at again.
-ROUNDS = 3
+# Of how many utilities whose sizes are found by cost several are changed at a time.
+MOST_TOGETHER = 2
 
 
 def as_level(utility: UnsizedRange) -> Utility:
     """A utility with a range at the end where it is worth most."""
     first = utility.parts[0]
-    return Utility(utility.name, first.side, first.supply, 0, ANY_HEAT, utility.price, first.contribution)
+    return Utility(utility.name, first.side, first.supply, utility.least, utility.most, utility.price,
+                   first.contribution)
 
 
 @dataclass
@@ -61,39 +66,77 @@ class Sizing:
                               utilities=(*self.base.utilities, *levels), forbids=(*self.base.forbids, *forbids)))
 
     def find_all(self) -> None:
-        """Finds the sizes: of those that have others beside them by cost, the cheapest first, and then again where the
-        others have their sizes, the dearest first; of the last one of each side the least that is enough."""
+        """Finds the sizes: of those that have others beside them by cost, the cheapest first, where the others are
+        levels; of the last one of each side the least that is enough. Where that costs more than with those levels,
+        with which no sizes cost less, sizes that cost less all together are looked for."""
         last = [self.last_of(side) for side in Side]
         chosen = sorted((utility for utility in self.ranges if utility not in last), key=lambda utility: utility.price)
+        floors: list[int | None] = []
         for utility in chosen:
-            self.sizes[utility.name] = self.cheapest(utility)
+            self.sizes[utility.name], cost = self.cheapest(utility)
+            floors.append(cost)
+        if not chosen:
+            self.find_last()
+            return
+        units = sum(abs(utility.price) * heat_of_parts(sized(utility.parts, 1)) for utility in self.ranges)
+        cost = self.cost_together()
+        is_near = cost is not None and floors[0] is not None and cost <= floors[0] + units
+        for side in Side:
+            self.find_together([utility for utility in chosen if utility.side is side], is_near)
+        # Where that is not enough it is refused.
         self.find_last()
-        in_segments = any(len(utility.parts) > 1 for utility in self.ranges)
-        for _ in range(ROUNDS if chosen or in_segments else 0):
-            before = dict(self.sizes)
-            for utility in reversed(chosen):
-                self.sizes[utility.name] = self.cheapest(utility)
-            self.settle_segments()
-            if self.sizes == before:
-                break
 
-    def settle_segments(self) -> None:
-        """Finds the last sizes once more, with the segments of each as they are rounded now: what is said of one unit
-        less is said of these."""
-        last = [self.last_of(side) for side in Side]
-        self.ranges = tuple(
-            replace(utility, parts=sized(utility.parts, self.sizes[utility.name]))
-            if len(utility.parts) > 1 and self.sizes[utility.name] and utility in last else utility
-            for utility in self.ranges)
-        self.find_last()
+    def find_together(self, chosen: Sequence[UnsizedRange], is_near: bool) -> None:
+        """Changes the sizes of some that are found by cost, each for itself and several at a time, by less and less
+        heat, as long as all together cost less; the last ones have the least that is enough with each. Near the least
+        cost they change by units of CP alone."""
+        moves = [move for move in product((0, 1, -1), repeat=len(chosen))
+                 if any(move) and (len(chosen) <= MOST_TOGETHER or sum(way * way for way in move) == 1)]
+        sizes, cost = {utility.name: self.sizes[utility.name] for utility in chosen}, self.cost_together()
+        units = [heat_of_parts(sized(utility.parts, 1)) for utility in chosen]
+        bounds = [self.bounds(utility) for utility in chosen]
+        heat = max(units if is_near else [heat_of_parts(sized(utility.parts, max(1, self.sizes.get(utility.name, 1))))
+                                          for utility in self.ranges], default=0) if moves else 0
+        while heat:
+            steps, before = [max(1, heat // unit) for unit in units], sizes
+            for move in moves:
+                there = {utility.name: min(most, max(least, sizes[utility.name] + way * step)) for utility, way, step,
+                         (least, most) in zip(chosen, move, steps, bounds)}
+                self.sizes.update(there)
+                changed = None if there == sizes else self.cost_together()
+                if changed is not None and (cost is None or changed < cost):
+                    sizes, cost = there, changed
+            if sizes == before:
+                heat = heat // 2 if heat >= min(units) else 0
+        self.sizes.update(sizes)
+
+    def cost_together(self) -> int | None:
+        """What all utilities cost with the sizes of those that are found by cost, when the last ones are found; None
+        where that is not enough."""
+        try:
+            self.find_last()
+        except Refused:
+            return None
+        flow = self.pinch.uses(print_case(self.trial({})))
+        return None if isinstance(flow, Cut) else flow.cost + sum(
+            utility.price * heat_of_parts(sized(utility.parts, cp)) for utility in self.ranges
+            if (cp := self.sizes[utility.name]))
 
     def find_last(self) -> None:
-        """Finds the size of the last one of each side. What one side has too much the other one has to take: so the
-        cold side comes before the hot one, and once more after it."""
+        """Finds the size of the last one of each side. The cold one comes first, with hot heat without end, then the
+        hot one, and the cold one once more, since what the hot side has too much it has to take. The last unit of the
+        cold one is none of the need of the hot one: it is only begun."""
         hot, cold = self.last_of(Side.HOT), self.last_of(Side.COLD)
-        for utility in (cold, hot, cold if hot else None):
-            if utility:
-                self.sizes[utility.name] = self.least_enough(utility)
+        if hot:
+            self.sizes.pop(hot.name, None)
+        if cold:
+            self.sizes[cold.name] = self.least_enough(cold)
+        if hot:
+            if cold:
+                self.sizes[cold.name] = max(0, self.sizes[cold.name] - 1)
+            self.sizes[hot.name] = self.least_enough(hot)
+        if hot and cold:
+            self.sizes[cold.name] = self.least_enough(cold)
 
     def level_of_last(self, side: Side, sizes: Mapping[str, int]) -> Utility | None:
         """What stands in for what whole units of CP leave, where the last one of a side has its size: at its supply and
@@ -102,7 +145,7 @@ class Sizing:
         if last is None or last.name not in sizes:
             return None
         usual = not self.base.basis.price_unit and last.price == (side is Side.HOT)
-        return None if usual else replace(as_level(last), name=STANDING[side])
+        return None if usual else replace(as_level(last), name=STANDING[side], least=0, most=ANY_HEAT)
 
     def last_of(self, side: Side) -> UnsizedRange | None:
         """The dearest utility of a side that has none at a level."""
@@ -144,13 +187,14 @@ class Sizing:
         heat = f'{shown.heat(lacks.heat)} {shown.heat_unit}'
         way = 'hot' if side is Side.HOT else 'cold'
         limit = f'the greatest CP that it can have, {shown.flow(most)} {shown.flow_unit}'
-        why = f'it is not {way} enough for them' if less.heat == lacks.heat else \
-            'take a smaller --scale, or a larger `most`'
-        return Refused(3, '', 'range', f'{utility.name} is not enough: with {limit}, {heat} are missing, and {why}; '
-                       f'another {way} utility is needed beside it')
+        larger = 'take a smaller --scale' if utility.most == ANY_HEAT else 'take a larger `most`'
+        why = f', and it is not {way} enough for them: another {way} utility is needed beside it' \
+            if less.heat == lacks.heat else f': {larger}, or another {way} utility beside it'
+        return Refused(3, '', 'range', f'{utility.name} is not enough: with {limit}, {heat} are missing{why}')
 
-    def cheapest(self, utility: UnsizedRange) -> int:
-        """The CP of least cost, where the other utilities of its side cost what they do."""
+    def cheapest(self, utility: UnsizedRange) -> tuple[int, int | None]:
+        """The CP of least cost, where the other utilities of its side cost what they do, and that cost, None where
+        there is no heat flow."""
         known = [(other.name, other.side, other.price) for other in self.base.utilities]
         known += [(other.name, other.side, other.price) for other in self.ranges]
         same = [name for name, side, price in known
@@ -179,20 +223,8 @@ class Sizing:
         if found == greatest_cp(utility.parts):
             raise Refused(3, '', 'range', f'{utility.name} makes a gain: the more of it there is the less all costs, '
                           'up to what the program can hold. It needs a `most`, or the others do')
-        return found
-
-
-def least_that(holds: Callable[[int], bool], first: int, last: int) -> int:
-    """The least number from the first on for which something holds, where it then holds for all above; the last one
-    where it holds for none below it. Near the first it is found soonest."""
-    step, below = 1, first
-    while below < last and not holds(below):
-        first, below, step = below + 1, min(last, below + step), step * 2
-    last = below
-    while first < last:
-        middle = (first + last) // 2
-        first, last = (first, middle) if holds(middle) else (middle + 1, last)
-    return first
+        cost = cost_at(found)
+        return found, None if isinstance(cost, Side) else cost
 
 
 @dataclass(frozen=True)

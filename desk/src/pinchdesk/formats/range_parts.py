@@ -38,6 +38,15 @@ def sized(parts: Sequence[Stream], cp: int) -> tuple[Stream, ...]:
                          load=max(1, rounded(part.load * times)) if part.load else 0) for part in parts)
 
 
+def one_less(parts: Sequence[Stream]) -> tuple[Stream, ...]:
+    """A utility with one unit of CP less in its largest segment, and no more than in proportion in the others; none
+    where that was the last one."""
+    cp = leading(parts).cp
+    return tuple(replace(part, cp=max(1, part.cp * (cp - 1) // cp) if part.cp else 0,
+                         load=max(1, part.load * (cp - 1) // cp) if part.load else 0)
+                 for part in parts) if cp > 1 else ()
+
+
 def greatest_cp(parts: Sequence[Stream]) -> int:
     """The greatest CP of the largest segment with which all segments are within the limits of the program."""
     first = leading(parts)

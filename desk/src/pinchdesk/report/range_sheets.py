@@ -9,7 +9,7 @@ from decimal import Decimal
 from ..analysis.range_checks import CheckedRange
 from ..errors import Refused
 from ..formats.case import Case, Side, Stream, read_case
-from ..formats.range_parts import cost_of_ranges, heat_of_parts, leading, range_parts, sized
+from ..formats.range_parts import cost_of_ranges, heat_of_parts, leading, one_less, range_parts
 from ..formats.ranges import RangedUtility
 from ..formats.shown import Number, Shown
 from ..program.answers import Targets
@@ -75,6 +75,8 @@ def less_told(checked: CheckedRange, shown: Shown) -> str:
         less = f'with {shown.flow(checked.cp - 1)} {shown.flow_unit}'
     else:
         less = 'without it'
+    if not checked.flows:
+        return 'the case has no heat flow'
     if checked.dearer is not None and checked.dearer < 0:
         return f'{less} the cost is {shown.with_unit(-checked.dearer)} lower, since all are sized one after the other'
     if not checked.is_least:
@@ -105,7 +107,7 @@ def spare_told(checked: CheckedRange, shown: Shown) -> str:
 
 def unit_heat(checked: CheckedRange) -> int:
     """What one unit of CP is in heat."""
-    return checked.heat - heat_of_parts(sized(checked.parts, checked.cp - 1)) if checked.cp > 1 else checked.heat
+    return checked.heat - heat_of_parts(one_less(checked.parts))
 
 
 def ranges_sheet(case: Case, cost: Number | None = None) -> Sheet:
