@@ -1,6 +1,7 @@
 """What words say and do of utilities with a range: tables, answers, networks, the page, and what is left."""
 from __future__ import annotations
 
+from fractions import Fraction
 from pathlib import Path
 
 import pytest
@@ -9,10 +10,13 @@ from pinchdesk import Pinch, read_case
 from pinchdesk.errors import Refused
 from pinchdesk.formats.case import Case, print_case
 from pinchdesk.formats.cost_rows import Film
+from pinchdesk.formats.range_parts import cost_of_ranges, cost_told, range_costs
+from pinchdesk.formats.shown import Shown
 from pinchdesk.formats.whole_streams import whole_streams
 from pinchdesk.live.case_lines import removed
 from pinchdesk.plant.whole_plant import read
 from pinchdesk.program.verdicts import Accepted, Rejected
+from pinchdesk.search.find import NoNetwork, limit_of
 from pinchdesk.tables.convert import Wanted
 from pinchdesk.words.case_word import CaseOptions, case_text, converted
 from pinchdesk.words.table_of_case import ReadingOptions, understood_of
@@ -178,8 +182,23 @@ def test_coefficients_of_them_are_kept(pinch: Pinch) -> None:
 @pytest.mark.long
 def test_a_network_is_found_and_accepted(plant: Path) -> None:
     answer('network', 'case.csv', '--seconds', '5', '-o', 'net.txt', cwd=plant)
+    head = (plant / 'net.txt').read_text(encoding='utf-8')
+    assert '# cost 0.971 EUR/h: 0.938 EUR/h of flue-gas, 0.033 EUR/h of water, 0 EUR/h by the program\n# floor' in head
     out = answer('table', 'case.csv', 'net.txt', cwd=plant).out
     assert out.startswith('accepted') and 'flue-gas' in out
+
+
+def test_what_a_network_may_cost_has_their_cost_in_it(plant: Path) -> None:
+    """All of them cost 0.971 EUR/h, and what the program knows costs nothing."""
+    case = read_case((plant / 'case.csv').read_bytes())
+    shown, beside = Shown(case.basis), cost_of_ranges(case)
+    assert cost_told(range_costs(case), 0, shown) == \
+        '0.971 EUR/h: 0.938 EUR/h of flue-gas, 0.033 EUR/h of water, 0 EUR/h by the program'
+    assert limit_of(0, shown.in_program(Fraction(1)), None, shown, beside) == shown.in_program(Fraction(1)) - beside
+    assert limit_of(0, None, 10, shown, beside) == Fraction(beside, 10)
+    with pytest.raises(NoNetwork) as none:
+        limit_of(0, shown.in_program(Fraction('0.9')), None, shown, beside)
+    assert 'no network costs less than 0.9714 EUR/h' in str(none.value)
 
 
 def test_the_example_of_the_guide(pinch: Pinch) -> None:

@@ -9,6 +9,7 @@ from .amounts import rounded
 from .case import Case, Side, Stream, parts_of_streams
 from .limits import CP, LOAD
 from .ranges import RangedUtility
+from .shown import Number, Shown
 
 
 def range_parts(case: Case, utility: RangedUtility) -> tuple[Stream, ...]:
@@ -21,9 +22,23 @@ def range_names(case: Case) -> frozenset[str]:
     return frozenset(part.name for utility in case.basis.ranges for part in range_parts(case, utility))
 
 
+def range_costs(case: Case) -> tuple[tuple[str, int], ...]:
+    """What each utility with a range costs, price times heat, which the costs of the program do not have in them."""
+    return tuple((utility.name, utility.price * heat_of_parts(range_parts(case, utility)))
+                 for utility in case.basis.ranges)
+
+
 def cost_of_ranges(case: Case) -> int:
-    """What the utilities with a range cost, price times heat, which the costs of the program do not have in them."""
-    return sum(utility.price * heat_of_parts(range_parts(case, utility)) for utility in case.basis.ranges)
+    """What all of them cost."""
+    return sum(cost for _, cost in range_costs(case))
+
+
+def cost_told(costs: Sequence[tuple[str, int]], cost: Number, shown: Shown) -> str:
+    """A cost of the program with its unit; beside utilities with a range the sum with what each of them costs."""
+    if not costs:
+        return shown.with_unit(cost)
+    named = ''.join(f'{shown.with_unit(part)} of {name}, ' for name, part in costs)
+    return f'{shown.with_unit(cost + sum(part for _, part in costs))}: {named}{shown.with_unit(cost)} by the program'
 
 
 def leading(parts: Sequence[Stream]) -> Stream:

@@ -110,12 +110,12 @@ def unit_heat(checked: CheckedRange) -> int:
     return checked.heat - heat_of_parts(one_less(checked.parts))
 
 
-def ranges_sheet(case: Case, cost: Number | None = None) -> Sheet:
+def ranges_sheet(case: Case, cost: Number | None = None, whole: str = 'all of them') -> Sheet:
     """The utilities with a range of a case, each with its heat and its cost, and beside a cost of the program, where
     there is one, the sum with it."""
     shown, beside = Shown(case.basis), cost_of_ranges(case)
     rows: list[FactRow] = [range_facts(utility, range_parts(case, utility), shown) for utility in case.basis.ranges]
-    sums: list[tuple[str, Number]] = [('all of them', beside)]
+    sums: list[tuple[str, Number]] = [(whole, beside)]
     sums += [] if cost is None else [('with the cost of the program', beside + cost)]
     rows += [(Fact('utility', name), *[Fact('', None)] * 6, Fact('cost', Decimal(shown.cost(amount)), shown.cost_unit))
              for name, amount in sums]
@@ -131,7 +131,7 @@ def with_ranges_sheet(sheets: tuple[Sheet, ...], content: bytes) -> tuple[Sheet,
     case = ranged_case(content)
     if case is None or not sheets or any(sheet.title == TITLE for sheet in sheets):
         return sheets
-    return (*sheets, ranges_sheet(case))
+    return (*sheets, ranges_sheet(case, whole='all of them, in no cost of the program'))
 
 
 def range_sheets(case: Case, ranges: Sequence[CheckedRange], cost: int | None = None) -> list[Sheet]:
@@ -150,9 +150,17 @@ def plant_sheets(case: Case, targets: Targets) -> list[Sheet]:
     return [replace(sheet, title=f'{sheet.title} without the utilities with a range') for sheet in sheets]
 
 
-def heat_facts(case: Case) -> FactRow:
-    """What each utility with a range gives or takes, in a table of many cases."""
-    shown = Shown(case.basis)
+def heat_facts(case: Case, cost: Number | None = None) -> FactRow:
+    """What each utility with a range gives or takes, in a table of many cases, and beside a cost of the program, where
+    there is one, what they cost and the sum with it."""
+    shown, beside = Shown(case.basis), cost_of_ranges(case)
+    costs = [('cost of utilities with a range', beside), ('cost with these', beside + cost)] \
+        if cost is not None and case.basis.ranges else []
+    return (*heats_of(case, shown), *(Fact(name, Decimal(shown.cost(amount)), shown.cost_unit)
+                                      for name, amount in costs))
+
+
+def heats_of(case: Case, shown: Shown) -> FactRow:
     return tuple(Fact(utility.name, Decimal(shown.heat(heat_of_parts(range_parts(case, utility)))), shown.heat_unit)
                  for utility in case.basis.ranges)
 

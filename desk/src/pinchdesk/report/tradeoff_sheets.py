@@ -7,6 +7,7 @@ from typing import TYPE_CHECKING
 
 from ..analysis.joined import network_count
 from ..formats.network import Exchanger, Network, print_network
+from ..formats.range_parts import cost_told, range_costs
 from ..formats.shown import Number, Shown
 from .facts import Fact, FactRow, FactTable
 from .sheet import Sheet
@@ -115,8 +116,9 @@ def network_texts(traded: TradeOff, marked: AcceptedNetwork | None = None, told:
 def network_text(found: AcceptedNetwork, traded: TradeOff, told: str = '') -> str:
     """A network as a text, with what it is in comments."""
     shown = Shown(traded.case.basis)
-    head = (f'# {found.count} exchangers, {found.splits} splits',
-            f'# cost {shown.with_unit(found.cost)}, floor {shown.with_unit(traded.floor)}, '
-            f'excess {shown.heat(found.verdict.excess)} {shown.heat_unit}', *([f'# {told}'] if told else []),
-            *(f'# {remark}' for remark in shown.scale_remarks()))
+    costs = range_costs(traded.case)
+    numbers = (f'cost {cost_told(costs, found.cost, shown)}', f'floor {cost_told(costs, traded.floor, shown)}',
+               f'excess {shown.heat(found.verdict.excess)} {shown.heat_unit}')
+    head = (f'# {found.count} exchangers, {found.splits} splits', f'# {("; " if costs else ", ").join(numbers)}',
+            *([f'# {told}'] if told else []), *(f'# {remark}' for remark in shown.scale_remarks()))
     return '\n'.join(head) + '\n' + print_network(found.network)

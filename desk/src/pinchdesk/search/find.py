@@ -14,6 +14,7 @@ from ..analysis.joined import network_count
 from ..errors import INFEASIBLE, DeskError, Status, WordsError
 from ..formats.case import Basis, Case, completed, read_case
 from ..formats.network import Network, print_network, read_network
+from ..formats.range_parts import cost_of_ranges, cost_told, range_costs
 from ..formats.shown import Shown, decimal_up
 from ..formats.whole_streams import whole_names
 from ..program.answers import Cut, Design, HeatFlow
@@ -48,7 +49,8 @@ class FewExchangers:
     `of_uses` is the same as `bound` for networks with the uses of the utilities that the heat flow of least cost has,
     and `proved` and `proved_of_uses` are as much of both as is proved in fractions. `basis` is that of the case;
     `exchangers` are those of the plant, of which one that goes on across the kink of a stream is one; `annual` is what
-    is said of the cost of a year where the network was chosen by it."""
+    is said of the cost of a year where the network was chosen by it; `range_costs` are what its utilities with a range
+    cost, which are in no cost of the program."""
 
     network: Network
     verdict: Accepted
@@ -64,6 +66,7 @@ class FewExchangers:
     annual: str = ''
     proved: int = 0
     proved_of_uses: int = 0
+    range_costs: tuple[tuple[str, int], ...] = ()
 
     @property
     def text(self) -> str:
@@ -73,8 +76,9 @@ class FewExchangers:
     def comments(self) -> list[str]:
         shown, verdict = Shown(self.basis), self.verdict
         return [self.counted, self.bounds, f'rule of the books, which is no bound: {self.rule}',
-                f'search: {self.ended}', f'cost {shown.with_unit(verdict.cost)}',
-                f'floor {shown.with_unit(verdict.floor)}', f'excess {shown.heat(verdict.excess)} {shown.heat_unit}',
+                f'search: {self.ended}', f'cost {cost_told(self.range_costs, verdict.cost, shown)}',
+                f'floor {cost_told(self.range_costs, verdict.floor, shown)}',
+                f'excess {shown.heat(verdict.excess)} {shown.heat_unit}',
                 *([self.annual] if self.annual else []), *shown.scale_remarks(), *self.remarks()]
 
     @property
@@ -160,7 +164,7 @@ def find_network(case: CaseText, most_cost: Fraction | int | None = None, above:
         designing = beside.submit(designed, pinch, case)
         flow = flow_of(pinch, case)
         asked = completed(case if isinstance(case, Case) else read_case(case))
-        limit = limit_of(flow.cost, most_cost, above, Shown(asked.basis))
+        limit = limit_of(flow.cost, most_cost, above, Shown(asked.basis), cost_of_ranges(asked))
         begins = bettered(pinch, asked, start)
         lasts = float(seconds) if way.steps is None else FOREVER
         task = task_of(pinch, asked, flow, limit, None, begun, lasts, way, staying(wishes, begins, limit))
@@ -236,7 +240,7 @@ def found_in(task: NetworkTask, state: SearchState, ended: str) -> FewExchangers
     return FewExchangers(best.network, best.verdict, min(state.bound, best.count), staged, ended,
                          network_count(task.case, best.network), task.case.basis, rule,
                          tight_of(task.case, best.network), libraries, min(state.of_uses, best.count), '', state.proved,
-                         state.proved_of_uses)
+                         state.proved_of_uses, range_costs(task.case))
 
 
 def in_place_of(found: FewExchangers, case: Case, chosen: AcceptedNetwork, annual: str) -> FewExchangers:
@@ -251,15 +255,18 @@ def tight_of(case: Case, network: Network) -> tuple[str, ...]:
                  if passage.hot_end == passage.cold_end == passage.approach)
 
 
-def limit_of(floor: int, most_cost: Fraction | int | None, above: Fraction | int | None, shown: Shown) -> Fraction:
-    """The most that the network may cost; `NoNetwork` where that is below the least cost of all."""
+def limit_of(floor: int, most_cost: Fraction | int | None, above: Fraction | int | None, shown: Shown,
+             beside: int = 0) -> Fraction:
+    """The most that the network may cost to the program, which does not know what utilities with a range cost beside;
+    `NoNetwork` where that is below the least cost of all."""
     if most_cost is not None:
-        limit = Fraction(most_cost)
+        limit = Fraction(most_cost) - beside
     else:
-        limit = floor + abs(Fraction(floor)) * Fraction(above or 0) / 100
+        limit = floor + abs(Fraction(floor + beside)) * Fraction(above or 0) / 100
     if limit < floor:
-        least = f'{decimal_up(shown.in_cost(floor), 6)} {shown.cost_unit}'
-        raise NoNetwork(f'no network costs less than {least}, the least cost of a heat flow', Status.FAILED)
+        least = f'{decimal_up(shown.in_cost(floor + beside), 6)} {shown.cost_unit}'
+        raise NoNetwork(f'no network costs less than {least}, the least cost of a heat flow'
+                        f'{" and that of the utilities with a range" if beside else ""}', Status.FAILED)
     return limit
 
 

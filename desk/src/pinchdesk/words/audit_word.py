@@ -21,8 +21,8 @@ def audit(files: Files, _: CaseShown = CaseShown(), tell: Telling = nobody) -> A
         beside = areas_beside(pinch, followed, verdict)
     of_case = followed.case
     ranges = [ranges_sheet(of_case, verdict.cost)] if isinstance(verdict, Accepted) and of_case.basis.ranges else []
-    facts = (*balance_facts(verdict, Shown(of_case.basis)), *heat_facts(of_case)) if isinstance(verdict, Accepted) \
-        else ()
+    facts = (*balance_facts(verdict, Shown(of_case.basis)), *heat_facts(of_case, verdict.cost)) \
+        if isinstance(verdict, Accepted) else ()
     answer = Answer((*audit_sheets(followed, verdict), *ranges), facts=(facts,), headline=audit_told(followed, verdict),
                     notes=open_notes(network, followed))
     return ended(with_areas(answer, beside), [verdict])

@@ -21,7 +21,8 @@ def flow(files: Files, _: CaseShown = CaseShown(), tell: Telling = nobody) -> An
         cut = printed if isinstance(printed, Cut) else None
         least = None if isinstance(printed, Cut) else printed.cost
         ranges = range_sheets(case, checked_ranges(pinch, case), least)
-    return Answer((*flow_sheets(case, printed), *ranges), facts=((*flow_facts(case, printed), *heat_facts(case)),),
+    facts = (*flow_facts(case, printed), *heat_facts(case, least))
+    return Answer((*flow_sheets(case, printed), *ranges), facts=(facts,),
                   headline=cut_told(cut, Shown(case.basis)) if cut else '', status=feasibility(cut is None))
 
 

@@ -114,12 +114,15 @@ def chosen(found: FewExchangers, case: Case, chooser: AnnualChooser) -> tuple[Fe
 
 
 def network_facts(found: FewExchangers) -> FactRow:
-    """What is known of a network, in the units of its case."""
+    """What is known of a network, in the units of its case; beside its cost that of the utilities with a range."""
     shown, verdict = Shown(found.basis), found.verdict
-    unit = shown.cost_unit
+    unit, beside = shown.cost_unit, sum(cost for _, cost in found.range_costs)
+    with_ranges = (Fact('cost of utilities with a range', Decimal(shown.cost(beside)), unit),
+                   Fact('cost with these', Decimal(shown.cost(verdict.cost + beside)), unit))
     return (Fact('exchangers', Decimal(found.exchangers)), Fact('cost', Decimal(shown.cost(verdict.cost)), unit),
             Fact('floor', Decimal(shown.cost(verdict.floor)), unit),
-            Fact('excess', Decimal(shown.heat(verdict.excess)), shown.heat_unit))
+            Fact('excess', Decimal(shown.heat(verdict.excess)), shown.heat_unit),
+            *(with_ranges if found.range_costs else ()))
 
 
 NETWORK_OF_FEW = Word('network', 'a network with few exchangers, at the least cost or a little above, accepted by '
