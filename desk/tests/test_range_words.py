@@ -1,15 +1,19 @@
 """What words say and do of utilities with a range: tables, answers, networks, the page, and what is left."""
 from __future__ import annotations
 
+from dataclasses import replace
 from fractions import Fraction
 from pathlib import Path
 
 import pytest
 
-from pinchdesk import Pinch, read_case
+from pinchdesk import Pinch, completed, follow, read_case
+from pinchdesk.analysis.open_branches import Left, Rounding, Scale, left_of, open_branches, rest_case
 from pinchdesk.errors import Refused
 from pinchdesk.formats.case import Case, print_case
-from pinchdesk.formats.cost_rows import Film
+from pinchdesk.formats.cost_rows import Film, Material, Measured, Overall
+from pinchdesk.formats.kept_rows import kept_cost_rows
+from pinchdesk.formats.network import read_network
 from pinchdesk.formats.range_parts import cost_of_ranges, cost_told, range_costs
 from pinchdesk.formats.shown import Shown
 from pinchdesk.formats.whole_streams import whole_streams
@@ -27,6 +31,7 @@ from tabled import made, refusal
 
 HEAD = 'Kind;Name;Supply;Target;CP;Duty;Price\n;;°C;°C;kW/K;kW;EUR/MWh\n'
 FOUR = f'{HEAD}cold;C1;20;135;2;;\nhot;H2;170;60;3;;\ncold;C3;80;140;4;;\nhot;H4;150;30;1,5;;\n'
+STANDING = ('HOT', 'COLD')
 BOTH = f'{FOUR}heater;flue gas;1500;160;;;35\ncooler;water;20;30;;;0,5\n'
 STEAM = f'{HEAD}hot;H;300;60;10;;\nheater;HP;310;;;;35\ncooler;steam;100;200;4,2;;-15\n' \
         'cooler;steam;200;200;;1940;\ncooler;steam;200;250;2,5;;\ncooler;water;20;30;;;0,5\n'
@@ -153,6 +158,42 @@ def test_what_is_left_and_what_is_taken_out_is_a_case_again(plant: Path) -> None
     left = read_case((plant / 'rest.csv').read_bytes())
     assert [utility.name for utility in left.basis.ranges] == ['water']
     assert [utility.name for utility in read_case(removed(text, 'stream water')).basis.ranges] == ['flue-gas']
+
+
+def test_rows_of_what_is_gone_go_with_it_and_those_of_parts_have_their_names(plant: Path) -> None:
+    """H2 and water are gone; flue gas and C3 are left in two branches each, and C1 as it is."""
+    rows = ''.join(f'#film,{name},500,W/m2K,,,\n' for name in ('C1', 'H2', 'C3', 'H4', 'flue-gas', 'water', 'HOT'))
+    rows += '#overall,H2,400,W/m2K,C1,,\n#overall,flue-gas,90,W/m2K,C3,,\n#material,C3,SS,,,,\n#law,,,1,2,1,m2\n'
+    text = (rows + (plant / 'case.csv').read_text(encoding='utf-8')).encode()
+    begun = 'exchanger E H2 water 66800\nsplit flue-gas f1 1 f2\nsplit C3 c1 100 c2\n' \
+            'pass H2 E h\nend h\npass water E w\nend w\n'
+    case = rest_case(completed(read_case(text)), left_of_case(text, begun), {name: Fraction(0) for name in STANDING},
+                     Scale(1), Rounding.HARDER)
+    assert [(utility.name, utility.price, utility.cp) for utility in case.basis.ranges] == \
+        [('f1', 350, 1), ('f2', 350, 1)]
+    films = [row.source for row in case.basis.cost_rows if isinstance(row, Film)]
+    assert films == ['C1', 'c1', 'c2', 'H4', 'f1', 'f2', 'HOT']
+    pairs = [(row.source, row.other) for row in case.basis.cost_rows if isinstance(row, Overall)]
+    assert pairs == [('f1', 'c1'), ('f1', 'c2'), ('f2', 'c1'), ('f2', 'c2')]
+    assert [row.source for row in case.basis.cost_rows if isinstance(row, Material)] == ['c1', 'c2']
+    again = read_case(print_case(case))
+    assert (again.streams, again.basis.cost_rows, again.basis.ranges) == (case.streams, case.basis.cost_rows,
+                                                                          case.basis.ranges)
+
+
+def left_of_case(case: bytes, network: str) -> tuple[Left, ...]:
+    followed = follow(completed(read_case(case)), read_network(network.encode()))
+    return tuple(left for left in left_of(followed.case, open_branches(followed)) if left.heat)
+
+
+def test_rows_of_a_stream_in_segments_stay_with_what_is_left_of_it() -> None:
+    """Of three segments the first is gone: a row of the stream stays with the other two, as that of one of them."""
+    wholes, names = {'CRUDE': ['CRUDE']}, {'CRUDE-2': ['CRUDE-2'], 'CRUDE-3': ['CRUDE-3']}
+    rows = [Film(name, Measured(Fraction(1), 'kW/m2K')) for name in ('CRUDE', 'CRUDE-1', 'CRUDE-3')]
+    assert kept_cost_rows(rows, names, wholes) == (rows[2], rows[0])
+    apart = {'CRUDE': ['CRUDE-2', 'CRUDE-3']}
+    rows[0] = replace(rows[0], coefficient=Measured(Fraction(2), 'kW/m2K'))
+    assert kept_cost_rows(rows, names, apart) == (rows[2], replace(rows[0], source='CRUDE-2'))
 
 
 def test_words_that_change_the_case_say_that_the_sizes_stay(plant: Path) -> None:

@@ -14,7 +14,7 @@ from pinchdesk.formats.case import ANY_HEAT, Forbid, print_case
 from pinchdesk.formats.comments import Basis, basis_rows, noted
 from pinchdesk.formats.limits import CP
 from pinchdesk.formats.range_parts import UnsizedRange, range_parts, sized
-from pinchdesk.formats.ranges import Lacking, RangedUtility, kept_ranges
+from pinchdesk.formats.ranges import Lacking, RangedUtility
 
 from anycase import names
 from conftest import example, tried
@@ -243,7 +243,6 @@ def test_what_is_printed_of_them_is_read_again(utilities: list[RangedUtility]) -
         assert len(row) == 7
         read = noted(read, row)
     assert read == basis
-    assert kept_ranges(utilities, {utility.name for utility in utilities[:1]}) == tuple(utilities[:1])
 
 
 @pytest.mark.parametrize('row, cause', [

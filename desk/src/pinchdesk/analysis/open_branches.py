@@ -12,9 +12,10 @@ from dataclasses import dataclass, replace
 from fractions import Fraction
 from math import ceil, floor, lcm
 
-from ..formats.case import ANY_HEAT, Case, Forbid, Side, Source, Stream, Utility, shifted
+from ..formats.case import ANY_HEAT, Basis, Case, Forbid, Side, Source, Stream, Utility, shifted
+from ..formats.kept_rows import kept_cost_rows, kept_ranges
 from ..formats.network import End, Mix, Network, Pass, Split
-from ..formats.ranges import kept_ranges
+from ..formats.range_parts import range_parts
 from ..formats.segments import SegmentedStream, kept_segments, segment_fault
 from ..tables.names import apart, fitted
 from .follow import Branch, Followed
@@ -208,10 +209,27 @@ def rest_case(case: Case, lefts: Sequence[Left], used: Mapping[str, Fraction], s
     segments = rest_segments(case, streams)
     sources: tuple[Source, ...] = (*streams, *utilities)
     kept = {*(source.name for source in sources), *(segmented.name for segmented in segments)}
-    ranges = tuple(replace(utility, lacking=None) for utility in kept_ranges(case.basis.ranges, kept))
-    basis = replace(case.basis, scale=case.basis.scale * scale.factor, segments=segments, ranges=ranges,
+    basis = replace(rest_rows(case, streams, segments, names), scale=case.basis.scale * scale.factor,
                     names=tuple(renamed for renamed in case.basis.names if renamed[1] in kept))
     return Case(case.contribution if scale.degrees == 1 else 0, streams, utilities, forbids, basis)
+
+
+def rest_rows(case: Case, streams: Sequence[Stream], segments: tuple[SegmentedStream, ...],
+              names: Mapping[str, Sequence[str]]) -> Basis:
+    """The basis of a case with the rows that speak of what is left of it; `names` has what is left of each source."""
+    named, whole = {stream.name: stream for stream in streams}, {one.name: one.segments for one in segments}
+
+    def left_of_parts(name: str, parts: Iterable[str]) -> dict[str, list[Stream]]:
+        """What is left of a stream in segments: as one where they follow one another, and what is beside that."""
+        as_one = whole.get(name, ())
+        alone = [made for part in parts for made in names.get(part, []) if made not in as_one]
+        return {**({name: [named[part] for part in as_one]} if as_one else {}),
+                **{made: [named[made]] for made in alone}}
+    wholes = {one.name: list(left_of_parts(one.name, one.segments)) for one in case.basis.segments}
+    left = {utility.name: left_of_parts(utility.name, [part.name for part in range_parts(case, utility)])
+            for utility in case.basis.ranges}
+    return replace(case.basis, segments=segments, ranges=kept_ranges(case.basis.ranges, left),
+                   cost_rows=kept_cost_rows(case.basis.cost_rows, names, wholes))
 
 
 def rest_segments(case: Case, streams: Sequence[Stream]) -> tuple[SegmentedStream, ...]:

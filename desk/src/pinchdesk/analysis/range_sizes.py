@@ -17,7 +17,8 @@ from itertools import product
 
 from ..errors import Refused
 from ..formats.case import ANY_HEAT, Case, Forbid, Side, Utility, print_case
-from ..formats.cost_rows import CostRow, Film, Material, Overall
+from ..formats.cost_rows import Film, Material, Overall
+from ..formats.kept_rows import named_by
 from ..formats.limits import MOST_COLD, MOST_HOT, MOST_UTILITIES
 from ..formats.range_parts import UnsizedRange, greatest_cp, heat_of_parts, sized
 from ..formats.ranges import Lacking, RangedUtility
@@ -250,7 +251,7 @@ def with_sizes(pinch: Pinch, base: Case, ranges: Sequence[UnsizedRange], forbids
                      for utility in used if len(utility.parts) > 1)
     found = tuple(RangedUtility(utility.name, utility.price, sizing.sizes[utility.name]) for utility in used)
     basis = replace(bare.basis, segments=(*base.basis.segments, *segments), ranges=found,
-                    cost_rows=tuple(row for row in bare.basis.cost_rows if not sources_of(row) & unused_names))
+                    cost_rows=tuple(row for row in bare.basis.cost_rows if unused_names.isdisjoint(named_by(row))))
     case = replace(bare, basis=basis)
     checked = checked_ranges(pinch, case)
     kept = tuple(replace(one.utility, lacking=one.less_lacking) for one in checked)
@@ -284,16 +285,6 @@ def with_rows_of_last(case: Case, sizing: Sizing) -> Case:
     rows = [replace(row, source=name) for name, utility in last for row in case.basis.cost_rows
             if isinstance(row, (Film, Overall, Material)) and row.source == utility.name]
     return replace(case, basis=replace(case.basis, cost_rows=(*case.basis.cost_rows, *rows)))
-
-
-def sources_of(row: CostRow) -> set[str]:
-    """The sources that a row of areas and money is about."""
-    match row:
-        case Film(source=name) | Material(source=name):
-            return {name}
-        case Overall(source, other):
-            return {source, other}
-    return set()
 
 
 def standing_told(base: Case, case: Case) -> tuple[str, ...]:

@@ -6,7 +6,7 @@ row `#utility,NAME,PRICE,CP,NEED,OFFER`: its price, the CP that was found for it
 less is not enough."""
 from __future__ import annotations
 
-from collections.abc import Collection, Iterator, Mapping, Sequence
+from collections.abc import Iterator, Mapping, Sequence
 from dataclasses import dataclass
 from typing import TYPE_CHECKING
 
@@ -16,7 +16,8 @@ from .segments import NAME
 if TYPE_CHECKING:
     from .case import Stream
 
-MOST_RANGES = 12
+# So many streams a case has at most, on both sides.
+MOST_RANGES = 60
 
 
 @dataclass(frozen=True)
@@ -87,8 +88,3 @@ def range_fault(utility: RangedUtility, streams: Mapping[str, Sequence[Stream]])
     if all(part.latent for part in parts):
         return f'{utility.name} has one temperature: such a utility is a row heater or cooler'
     return ''
-
-
-def kept_ranges(utilities: Sequence[RangedUtility], kept: Collection[str]) -> tuple[RangedUtility, ...]:
-    """The utilities whose streams are there, where some streams of a case are gone."""
-    return tuple(utility for utility in utilities if utility.name in kept)
