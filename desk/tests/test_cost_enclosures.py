@@ -4,31 +4,17 @@ from __future__ import annotations
 from fractions import Fraction
 from typing import Any
 
-import mpmath
 import pytest
+from fifty import FIFTY, digits, holds, width
 from hypothesis import given
 from hypothesis import strategies as st
 
 from pinchdesk.costs.cost_units import KNOWN, NoUnit, coefficient_factor
-from pinchdesk.costs.enclosure import Enclosure, agreed, between, enclosed, power, square_root, total
+from pinchdesk.costs.enclosure import agreed, between, enclosed, power, square_root, total
 from pinchdesk.costs.log_mean import ONE, log_mean, log_mean_between, logarithm_ends
 
-FIFTY: Any = mpmath.mp.clone()
-FIFTY.dps = 60
 DIFFERENCES = st.fractions(min_value=Fraction(1, 1000), max_value=500, max_denominator=10 ** 6)
 SMALL_STEPS = st.integers(1, 40).map(lambda places: Fraction(1, 10 ** places))
-
-
-def digits(number: Fraction) -> Any:
-    return FIFTY.mpf(number.numerator) / number.denominator
-
-
-def holds(enclosure: Enclosure, number: Any) -> bool:
-    return bool(digits(enclosure.low) <= number <= digits(enclosure.high))
-
-
-def width(enclosure: Enclosure) -> Fraction:
-    return (enclosure.high - enclosure.low) / enclosure.low
 
 
 def mean_of(first: Fraction, second: Fraction) -> Any:

@@ -3,12 +3,12 @@ from __future__ import annotations
 
 from dataclasses import dataclass
 from fractions import Fraction
-from math import ceil
 
 from ..formats.cost_rows import Build, CostLaw, Measured, Per
 from ..formats.range_parts import cost_of_ranges
 from .cost_data import CostData, square_metres
 from .enclosure import Enclosure, enclosed, power
+from .shells import whole_shells
 
 
 @dataclass(frozen=True)
@@ -46,8 +46,7 @@ def at_most(build: Build, area: Enclosure) -> int:
     """How many shells an area needs since none is larger than the most; 1 where there is no most."""
     if build.most is None:
         return 1
-    most = square_metres(build.most, 'the most area of a shell')
-    return max(1, ceil(area.high / most))
+    return whole_shells(area / square_metres(build.most, 'the most area of a shell'))
 
 
 def priced_parts(build: Build, exchangers: int, shells: int) -> int:

@@ -2,7 +2,7 @@
 asked for; nothing is assumed."""
 from __future__ import annotations
 
-from collections.abc import Callable, Mapping
+from collections.abc import Callable, Iterable, Mapping
 from dataclasses import dataclass
 from fractions import Fraction
 from functools import cached_property
@@ -66,8 +66,15 @@ class CostData:
     @cached_property
     def overalls(self) -> dict[frozenset[str], Fraction]:
         """The overall coefficients that are given, in W/(m² K), by one source, by two, or by none for all."""
+        rows = self.rows(Overall)
+        for row in rows:
+            sides = [source.side for name in (row.source, row.other) if name
+                     for source in self.case.sources if name in self.names_of(source)]
+            if row.source and row.other and len(set(sides)) < 2:
+                raise refused(f'#overall of {row.source} and {row.other}', f'both are {sides[0].value}: a coefficient '
+                              'is that of a hot and a cold source')
         return {frozenset({row.source, row.other} - {''}):
-                self.resolved(f'#overall of {row.source or "all"}', overall_of_row, row) for row in self.rows(Overall)}
+                self.resolved(f'#overall of {row.source or "all"}', overall_of_row, row) for row in rows}
 
     @cached_property
     def ranges(self) -> dict[str, EndTemperatures]:
@@ -154,15 +161,17 @@ class CostData:
         if not self.overalls:
             return 1 / (self.resistance(hot) + self.resistance(cold))
         names = self.names_of(hot), self.names_of(cold)
-        pairs = (frozenset(both) for both in product(*names))
-        pair = next((self.overalls[both] for both in pairs if both in self.overalls), None)
-        own = {self.overalls[frozenset((name,))] for name in (*names[0], *names[1])
-               if frozenset((name,)) in self.overalls}
+        pair = self.overall_of(frozenset(both) for both in product(*names))
+        own = {self.overall_of(frozenset((name,)) for name in side) for side in names} - {None}
         if pair is None and len(own) > 1:
             raise refused(f'#overall of {hot.name} and {cold.name}', 'they have two: enter a row '
                           f'`#overall,{hot.name},VALUE,kW/m2K,{cold.name},,`')
         found = pair or next(iter(own), None) or self.overalls.get(frozenset())
         return found or 1 / (self.resistance(hot) + self.resistance(cold))
+
+    def overall_of(self, named: Iterable[frozenset[str]]) -> Fraction | None:
+        """The coefficient that is given for the first of these that has one."""
+        return next((self.overalls[names] for names in named if names in self.overalls), None)
 
     def law(self, service: Service, materials: str = '') -> CostLaw:
         """The cost law of a kind of exchangers, of a material or of two, as `X+Y`."""

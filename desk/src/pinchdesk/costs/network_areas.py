@@ -15,7 +15,7 @@ from ..analysis.follow import Followed, Passage, SideState, follow
 from ..analysis.joined import joined
 from ..errors import DeskError, Refused
 from ..formats.case import Case, Side, Utility, completed, read_case
-from ..formats.cost_rows import Flow, Service
+from ..formats.cost_rows import Build, Flow, Service
 from ..formats.network import Network, read_network
 from ..formats.shown import Shown, decimal
 from ..program.run import CaseText, NetworkText, Pinch
@@ -23,12 +23,12 @@ from ..program.verdicts import Accepted, Rejected, TooFine, ending
 from .annual import at_most
 from .area_target import AreaTarget, area_target
 from .cost_data import CostData, EndTemperatures, refused
-from .enclosure import Enclosure, total
+from .enclosure import Enclosure, enclosed, total
 from .log_mean import log_mean
-from .shells import Duty, correction, shells_of, whole_shells
+from .shells import Duty, corrections, shells_of, whole_shells
 
 
-# No exchanger has more shells in series.
+# An exchanger that needs more 1-2 shells in series is refused.
 MOST_SHELLS = 1000
 
 
@@ -182,43 +182,86 @@ def part_duties(data: CostData, passage: Passage) -> Iterator[Duty]:
         done += part.exchanger.duty
 
 
+@dataclass(frozen=True)
+class PartOfArea:
+    """An exchanger, or a part of it between two kinks: its heat in W, its ends, U in W/(m² K), its mean in K."""
+
+    heat: Fraction
+    ends: Duty
+    coefficient: Fraction
+    mean: Enclosure
+
+    @property
+    def counter_current(self) -> Enclosure:
+        """Its area in m² where the flow is counter-current."""
+        return self.heat / (self.coefficient * self.mean)
+
+
 def exchanger_area(data: CostData, passage: Passage, warmer: int = 0) -> ExchangerArea:
     """An exchanger with its area. `warmer` is by how many K both differences are taken larger."""
     name, service = passage.exchanger.name, service_of(data, passage)
-    parts = [part_area(data, name, part, duty, warmer)
+    parts = [part_of_area(data, name, part, duty, warmer)
              for part, duty in zip(passage.parts, part_duties(data, passage))]
-    heat, area = sum((part.duty for part in parts), Fraction(0)), total(part.area for part in parts)
+    build = data.build(service)
+    if build.flow is Flow.ONE_TWO:
+        shells, factors = in_series(build, name, parts)
+    else:
+        shells, factors = at_most(build, total(part.counter_current for part in parts)), [enclosed(1)] * len(parts)
+    heat, area = sum((part.heat for part in parts), Fraction(0)), area_with(parts, factors)
     coefficients = {part.coefficient for part in parts}
-    mean, factor = parts[0].mean, parts[0].factor
+    mean, factor = parts[0].mean, factors[0]
     if len(parts) > 1:
-        mean = heat / total(part.duty / part.mean for part in parts)
-        factor = total(part.area * part.factor for part in parts) / area
-    shells = max(sum(part.shells for part in parts), at_most(data.build(service), area))
+        mean = heat / total(part.heat / part.mean for part in parts)
+        factor = total(part.counter_current for part in parts) / area
     return ExchangerArea(name, service, duty_of(data, passage), heat, coefficients.pop() if len(coefficients) == 1
                          else None, mean, factor, shells, area)
 
 
-def part_area(data: CostData, name: str, passage: Passage, duty: Duty, warmer: int) -> ExchangerArea:
-    """A part of an exchanger, or the whole of it, with its area; `name` is that of the whole."""
+def part_of_area(data: CostData, name: str, passage: Passage, duty: Duty, warmer: int) -> PartOfArea:
+    """A part of an exchanger, or the whole of it; `name` is that of the whole."""
     for end, found in differences(duty):
         if found <= 0:
             raise refused(f'exchanger {name}', f'at its {end} end the difference is {decimal(found, 2)} K: no area is '
                           'large enough')
-    service, heat = service_of(data, passage), data.watts(passage.exchanger.duty)
     wide = Duty(EndTemperatures(duty.hot.inlet + 10 * warmer, duty.hot.outlet + 10 * warmer), duty.cold)
-    build, coefficient = data.build(service), data.coefficient(passage.hot.source, passage.cold.source)
-    shells, factor = 1, total([1])
-    if build.flow is Flow.ONE_TWO:
-        assert build.part is not None
-        shells = whole_shells(shells_of(wide, build.part))
-        found_factor = correction(wide, shells) if shells <= MOST_SHELLS else None
-        if found_factor is None:
-            raise refused(f'exchanger {name}', f'{shells} shells of 1-2 flow cannot do its duty: take it '
-                          'counter-current')
-        factor = found_factor
-    mean = log_mean(*(difference for _, difference in differences(wide)))
-    area = heat / (coefficient * factor * mean)
-    return ExchangerArea(name, service, duty, heat, coefficient, mean, factor, shells, area)
+    return PartOfArea(data.watts(passage.exchanger.duty), wide,
+                      data.coefficient(passage.hot.source, passage.cold.source),
+                      log_mean(*(difference for _, difference in differences(wide))))
+
+
+def area_with(parts: Sequence[PartOfArea], factors: Sequence[Enclosure]) -> Enclosure:
+    """The area of an exchanger in m² with these Ft of its parts."""
+    return total(part.counter_current / factor for part, factor in zip(parts, factors))
+
+
+def in_series(build: Build, name: str, parts: Sequence[PartOfArea]) -> tuple[int, Sequence[Enclosure]]:
+    """The least number of 1-2 shells in series of which none is larger than the most, with Ft of each part."""
+    assert build.part is not None
+    shells = whole_shells(total(shells_of(part.ends, build.part) for part in parts))
+    factors = corrections([part.ends for part in parts], build.part, shells) if shells <= MOST_SHELLS else None
+    if factors is None:
+        raise refused(f'exchanger {name}', f'{shells} shells of 1-2 flow cannot do its duty: take it counter-current')
+    enough = at_most(build, area_with(parts, factors))
+    return series_of(build, parts, shells, enough) if shells < enough else (shells, factors)
+
+
+def series_of(build: Build, parts: Sequence[PartOfArea], shells: int, enough: int) -> tuple[int, Sequence[Enclosure]]:
+    """The least number between two, found by halving, since more shells in series have less area."""
+    while shells < enough:
+        middle = (shells + enough) // 2
+        if at_most(build, area_with(parts, factors_of(build, parts, middle))) <= middle:
+            enough = middle
+        else:
+            shells = middle + 1
+    return shells, factors_of(build, parts, shells)
+
+
+def factors_of(build: Build, parts: Sequence[PartOfArea], shells: int) -> list[Enclosure]:
+    """Ft of the parts of an exchanger of so many shells, which can do its duty."""
+    assert build.part is not None
+    factors = corrections([part.ends for part in parts], build.part, shells)
+    assert factors is not None
+    return factors
 
 
 def service_of(data: CostData, passage: Passage) -> Service:

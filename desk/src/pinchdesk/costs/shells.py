@@ -5,13 +5,14 @@ With P and R of the whole, s = √(R² + 1) and D = R + 1 + s the books have two
 logarithmic means there is one, without cancellation. Hot and cold may be exchanged: R becomes 1/R and P becomes PR."""
 from __future__ import annotations
 
+from collections.abc import Sequence
 from dataclasses import dataclass
 from fractions import Fraction
 from functools import lru_cache
 from math import ceil
 
 from .cost_data import EndTemperatures
-from .enclosure import Enclosure, enclosed, logarithm, power, square_root
+from .enclosure import Enclosure, enclosed, exponential, logarithm, square_root, total
 from .log_mean import log_mean, log_mean_between, over_log_mean
 
 # So many ratios of flows are kept in mind: over the least difference those of a case stay the same.
@@ -73,17 +74,35 @@ def whole_shells(shells: Enclosure) -> int:
     return max(1, nearest if nearest in shells else ceil(shells.high))
 
 
-def correction(duty: Duty, shells: int) -> Enclosure | None:
-    """Ft of so many shells in series, by which the logarithmic mean is multiplied; None where they cannot do it."""
+def correction(duty: Duty, shells: int | Enclosure) -> Enclosure | None:
+    """Ft of so many shells in series, by which the logarithmic mean is multiplied; None where they cannot do it. A part
+    of an exchanger may have a part of its shells, a real number."""
     if duty.flat:
         return enclosed(1)
     whole, ratio = duty.effectiveness, duty.ratio
-    step = power((1 - ratio * whole) / (1 - whole), Fraction(1, shells))
-    ladder, rung = enclosed(1), enclosed(1)
-    for _ in range(shells - 1):
-        rung *= step
-        ladder += rung
-    return factor_at(whole / (whole + (1 - whole) * ladder), ratio)
+    return factor_at(whole / (whole + (1 - whole) * ladder((1 - ratio * whole) / (1 - whole), shells)), ratio)
+
+
+def ladder(gain: Fraction, shells: int | Enclosure) -> Enclosure:
+    """1 + w + w² + .. of so many terms, by the `gain` that w to their number is: (gain - 1)/(w - 1), without
+    cancellation where both are nearly 1."""
+    if shells == 1:
+        return enclosed(1)
+    step = exponential(logarithm(gain) / shells)
+    return shells * log_mean(gain, 1) / log_mean_between(step, enclosed(1))
+
+
+def corrections(duties: Sequence[Duty], part: Fraction, shells: int) -> list[Enclosure] | None:
+    """Ft of each part of an exchanger of so many shells in series, which its parts share as they need them; None where
+    they cannot do it. Where no CP changes all are the same, however it is cut."""
+    shares: list[int | Enclosure] = [shells]
+    if len(duties) > 1:
+        needs = [shells_of(duty, part) for duty in duties]
+        whole = total(needs)
+        shares = [need * shells / whole if need.high else 0 for need in needs]
+    factors = [correction(duty, share) for duty, share in zip(duties, shares)]
+    known = [factor for factor in factors if factor]
+    return known if len(known) == len(factors) else None
 
 
 @lru_cache(maxsize=RATIOS)
