@@ -113,7 +113,8 @@ def test_units_are_those_that_pint_has() -> None:
 
 @pytest.mark.parametrize(('text', 'factor'), [
     ('kW/m2K', 1000), ('W/(m2 K)', 1), ('W m-2 K-1', 1), ('kJ/h·m²·°C', Fraction(5, 18)), ('kW/cm2K', 10 ** 7),
-    ('Btu/(h ft2 °F)', Fraction(1648525, 290322)), ('kcal/(h m2 C)', Fraction(523, 450))])
+    ('Btu/(h ft2 °F)', Fraction(1648525, 290322)),
+    ('Btu/hr-ft2-F', Fraction(1648525, 290322)), ('kJ/h-m2-C', Fraction(5, 18)), ('kcal/(h m2 C)', Fraction(523, 450))])
 def test_coefficients_are_read_as_people_write_them(text: str, factor: Fraction) -> None:
     assert coefficient_factor(text) == factor
 

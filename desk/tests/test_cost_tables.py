@@ -94,6 +94,12 @@ def test_both_forms_of_the_annual_factor_and_a_number_are_told_apart() -> None:
         assert rows_of(TABLE.replace('recovery', text))[-1] == f'#annual,{row}'
 
 
+def test_an_annual_factor_that_is_a_number_has_no_interest() -> None:
+    table = made(TABLE.replace('annual factor;recovery', 'annual factor;0.2'))
+    assert table.notes[-2:] == ('row 14: passed over, since `annual factor` is a number: `interest`',
+                                'row 15: passed over, since `annual factor` is a number: `years`')
+
+
 @pytest.mark.parametrize(('old', 'new', 'told'), [
     ('law of;exchanger\n', '', 'row 8: of the costs `law of` (exchanger, or shell) is missing'),
     ('currency;$\ninstallation factor;1\n', '', '`currency` (EUR) and `installation factor` (1) are missing'),

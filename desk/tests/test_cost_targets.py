@@ -210,16 +210,44 @@ def test_what_is_said_of_areas_is_kept_by_a_case() -> None:
     ('#film,H,0.7,kW/m2K,,,', 'a row above says something else'), ('#film,K,x,kW/m2K,,,', 'x is not a number'),
     ('#film,,0.7,kW/m2K,,,', 'the source is missing'), ('#law,pump,,1,1,1,m2', 'not a kind of exchanger'),
     ('#law,,X,1,1,2,m2', 'the exponent 2 is above 1'), ('#build,cooler,1-2,,,,shell', 'as 0.9'),
-    ('#annual,recovery,10,5,,,', 'another one|10 % are 0.1'), ('#range,W,20,30,,,', 'unit of temperature is missing')])
+    ('#range,W,20,30,,,', 'unit of temperature is missing'),
+    ('#film,K,,kW/m2K,,,', 'film coefficient is missing'),
+    ('#law,cooler,,1,,1,m2', 'the factor is missing'), ('#law,cooler,,1,1,,m2', 'the exponent is missing')])
 def test_a_row_that_says_what_cannot_be_is_refused(row: str, cause: str) -> None:
     with pytest.raises(Refused, match=cause):
         read_case(SMALL + row + '\n')
 
 
+@pytest.mark.parametrize(('annual', 'cause'), [
+    ('recovery,10,5,', '10 % are 0.1'), ('recovery,1,5,', 'an interest of 1 is 100 % or more'),
+    ('recovery,-0.1,5,', 'at least 0'), ('recovery,0.1,0,', 'whole, 1 to 100'), ('recovery,0.1,,', 'years is missing'),
+    ('recovery,,5,', 'interest is missing'), ('recovery,0.1,5,87600', 'a year has at most 8784 hours'),
+    ('factor,0.1,5,', 'an annual factor has no years'), ('factor,5,,', 'above 1, more than the whole capital'),
+    ('factor,,,', 'annual factor is missing'), ('recovery,0.1,5,0', 'hours a year has to be above 0')])
+def test_a_cost_of_a_year_that_may_be_another_one_is_refused(annual: str, cause: str) -> None:
+    with pytest.raises(Refused, match=cause):
+        read_case(SMALL.replace('recovery,0.1,5,', annual))
+
+
+@pytest.mark.parametrize(('fouling', 'cause'), [
+    ('0,kW/m2K', 'no fouling is a resistance of 0'), ('-1,m2K/kW', 'the fouling is -1, and has to be at least 0'),
+    ('0.5,', 'the fouling 0.5 has no unit'), ('0.5,kW', 'kW` is not a unit of fouling, as m2K/kW or kW/m2K')])
+def test_a_fouling_that_is_none_is_refused(fouling: str, cause: str) -> None:
+    with pytest.raises(Refused, match=cause):
+        assert data_of(SMALL.replace('#film,C,0.4,kW/m2K,,', f'#film,C,0.4,kW/m2K,{fouling}')).films
+
+
+def test_a_fouling_of_0_is_none() -> None:
+    films = data_of(SMALL.replace('#film,C,0.4,kW/m2K,,', '#film,C,0.4,kW/m2K,0,m2K/W')).films
+    assert films == data_of(SMALL).films
+
+
 @pytest.mark.parametrize(('row', 'cause'), [
     ('#film,K,0.7,kW/m2K,,,', 'no such source'), ('#range,H,20,30,C,,', 'it is not a utility'),
-    ('#range,S,20,30,C,,', 'a hot utility cools down'), ('#overall,H,1,kW/K,C,,', 'not a unit of this kind'),
-    ('#overall,H,1,,,,', '1 has no unit'), ('#overall,H,0,kW/m2K,,,', 'has to be above 0')])
+    ('#range,S,20,30,C,,', 'a hot utility cools down'),
+    ('#overall,H,1,kW/K,C,,', 'kW/K` is not a unit of film or overall coefficients, as kW/m2K'),
+    ('#overall,H,1,,,,', 'the overall coefficient 1 has no unit'),
+    ('#overall,H,0,kW/m2K,,,', 'the overall coefficient is 0, and has to be above 0')])
 def test_a_row_that_does_not_fit_its_case_is_refused(row: str, cause: str) -> None:
     data = data_of(SMALL + row + '\n')
     with pytest.raises(Refused, match=cause):

@@ -6,7 +6,7 @@ from fractions import Fraction
 
 import pytest
 from conftest import example
-from costed import SMALL
+from costed import NETWORK, ONE_TWO, SMALL
 
 from pinchdesk import Cut, Pinch, Refused, WordsError
 from pinchdesk.costs.network_areas import NoAreas
@@ -19,7 +19,7 @@ from pinchdesk.words.supertarget_word import SupertargetOptions
 from pinchdesk.words.supertarget_word import over_difference as supertarget
 from pinchdesk.words.word import Answer, Files, TextFile
 
-CASE, NETWORK = 'reactors-cost.csv', 'reactors-cost-network.txt'
+CASE, EXAMPLE = 'reactors-cost.csv', 'reactors-cost-network.txt'
 
 
 def files_of(**contents: bytes) -> Files:
@@ -27,7 +27,7 @@ def files_of(**contents: bytes) -> Files:
 
 
 REACTORS = files_of(case=example(CASE))
-BUILT = files_of(case=example(CASE), network=example(NETWORK))
+BUILT = files_of(case=example(CASE), network=example(EXAMPLE))
 
 
 def test_targets_are_facts_with_their_units() -> None:
@@ -49,9 +49,25 @@ def test_a_network_has_its_exchangers_and_sums() -> None:
     assert text.startswith('Exchangers\n') and 'E4         exchanger    17500  0.342857' in text
 
 
+def test_shells_that_have_a_price_each_are_shown() -> None:
+    """39.7 m² in shells of 10 m²."""
+    case = SMALL.replace('counter-current,,,,exchanger', 'counter-current,,10,m2,shell').encode()
+    facts = {fact.name: fact.value for fact in cost(files_of(case=case)).facts[0]}
+    assert (facts['units'], facts['shells']) == (3, 4)
+    table = supertarget(files_of(case=case), SweepOptions('8', '10', '2')).sheets[1]
+    assert [row[table.headings.index('shells')] for row in table.rows] == [5, 4]
+
+
+def test_the_formula_beside_1_2_shells_is_said_to_be_counter_current() -> None:
+    case = SMALL.replace(*ONE_TWO).encode()
+    text = str(cost(files_of(case=case, network=NETWORK.encode())).content('text'))
+    assert 'Ft of its 1-2 shells in it: so has the area efficiency' in text
+    assert 'Ft of its' not in str(cost(BUILT).content('text'))
+
+
 def test_a_network_that_is_not_accepted_ends_as_rejected() -> None:
     with pytest.raises(NoAreas, match='rejected') as fault:
-        cost(files_of(case=example(CASE), network=example(NETWORK).replace(b'7500000', b'7400000')))
+        cost(files_of(case=example(CASE), network=example(EXAMPLE).replace(b'7500000', b'7400000')))
     assert (fault.value.status, fault.value.no) == (Status.NO, 'rejected')
 
 

@@ -4,7 +4,7 @@ from __future__ import annotations
 from dataclasses import dataclass
 from fractions import Fraction
 
-from ..formats.cost_rows import Build, CostLaw, Measured, Per
+from ..formats.cost_rows import Build, CostLaw, Measured, Per, Service
 from ..formats.range_parts import cost_of_ranges
 from .cost_data import CostData, square_metres
 from .enclosure import Enclosure, enclosed, power
@@ -36,7 +36,7 @@ def annual_cost(data: CostData, capital: Enclosure, cost: int | Fraction) -> Ann
 
 def price_of(data: CostData, law: CostLaw, area: Enclosure, count: int = 1) -> Enclosure:
     """The installed price of so many exchangers or shells of one law that share an area in m² evenly."""
-    metres = square_metres(Measured(Fraction(1), law.unit), 'the unit of area of a cost law')
+    metres = square_metres(Measured(Fraction(1), law.unit), f'#law of {kinds_of(law.service)}', 'unit of area')
     share = area / (metres * count)
     price = enclosed(law.fixed) + (law.factor * power(share, law.exponent) if law.factor else 0)
     return price * (count * data.capital.installation * data.capital.index)
@@ -46,7 +46,13 @@ def at_most(build: Build, area: Enclosure) -> int:
     """How many shells an area needs since none is larger than the most; 1 where there is no most."""
     if build.most is None:
         return 1
-    return whole_shells(area / square_metres(build.most, 'the most area of a shell'))
+    most = square_metres(build.most, f'#build of {kinds_of(build.service)}', 'most area of a shell')
+    return whole_shells(area / most)
+
+
+def kinds_of(service: Service | None) -> str:
+    """Of what exchangers a row is."""
+    return f'{service.value}s' if service else 'all exchangers'
 
 
 def priced_parts(build: Build, exchangers: int, shells: int) -> int:

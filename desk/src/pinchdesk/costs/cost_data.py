@@ -13,7 +13,7 @@ from ..errors import Refused
 from ..formats.case import Case, Side, Source, Stream, Utility
 from ..formats.case_units import TEMPERATURES
 from ..formats.cost_rows import (Annual, AnnualForm, Build, Capital, CostLaw, CostRow, Film, Material, Measured,
-                                 Overall, UtilityRange, Service, printed_cost_row)
+                                 Overall, UtilityRange, Service, printed_cost_row, written)
 from ..formats.range_parts import range_names
 from ..formats.whole_streams import whole_names
 from ..tables.money import two_moneys
@@ -290,26 +290,38 @@ def names_of(row: CostRow) -> tuple[str, ...]:
 
 
 def resistance_of(row: Film) -> Fraction:
-    film = 1 / (checked(row.coefficient) * coefficient_factor(row.coefficient.unit))
-    return film + (fouling_resistance(checked(row.fouling), row.fouling.unit) if row.fouling else 0)
+    film = 1 / (checked(row.coefficient, 'film coefficient') * coefficient_factor(row.coefficient.unit))
+    return film + (fouling_of(row.fouling) if row.fouling else 0)
+
+
+def fouling_of(fouling: Measured) -> Fraction:
+    """The resistance of a fouling; none is one of 0."""
+    if fouling.value < 0:
+        raise NoUnit(f'the fouling is {written(fouling.value)}, and has to be at least 0')
+    return fouling_resistance(fouling.value, with_unit(fouling, 'fouling'))
 
 
 def overall_of_row(row: Overall) -> Fraction:
-    return checked(row.coefficient) * coefficient_factor(row.coefficient.unit)
+    return checked(row.coefficient, 'overall coefficient') * coefficient_factor(row.coefficient.unit)
 
 
-def checked(number: Measured) -> Fraction:
+def checked(number: Measured, what: str) -> Fraction:
     """A number above 0 that has a unit; `NoUnit` where it has none."""
     if number.value <= 0:
-        raise NoUnit(f'it is {number.value}, and has to be above 0')
-    if not number.unit:
-        raise NoUnit(f'{number.value} has no unit')
+        raise NoUnit(f'the {what} is {written(number.value)}, and has to be above 0')
+    with_unit(number, what)
     return number.value
 
 
-def square_metres(number: Measured, what: str) -> Fraction:
+def with_unit(number: Measured, what: str) -> str:
+    if not number.unit:
+        raise NoUnit(f'the {what} {written(number.value)} has no unit')
+    return number.unit
+
+
+def square_metres(number: Measured, row: str, what: str) -> Fraction:
     """An area in m²; `Refused` where its unit is none."""
     try:
-        return checked(number) * area_factor(number.unit)
+        return checked(number, what) * area_factor(number.unit)
     except NoUnit as fault:
-        raise refused(what, str(fault)) from fault
+        raise refused(row, str(fault)) from fault

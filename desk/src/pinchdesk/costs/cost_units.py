@@ -15,8 +15,9 @@ SHAPE = re.compile(r'[A-Za-z°µ0-9/() .-]+')
 Dimensions = tuple[int, int, int, int]
 HEAT, POWER, TIME, LENGTH, DIFFERENCE = (1, 0, 0, 0), (1, -1, 0, 0), (0, 1, 0, 0), (0, 0, 1, 0), (0, 0, 0, 1)
 COEFFICIENT, RESISTANCE, AREA = (1, -1, -2, -1), (-1, 1, 2, 1), (0, 0, 2, 0)
-# What would do where a unit is none.
-EXAMPLES = {COEFFICIENT: 'kW/m2K', RESISTANCE: 'm2K/kW', AREA: 'm2'}
+# Of what a unit is none, with one that would do.
+KINDS = {COEFFICIENT: 'film or overall coefficients, as kW/m2K', RESISTANCE: 'fouling, as m2K/kW',
+         AREA: 'area, as m2 or ft2'}
 CALORIE, BTU, FOOT = Fraction('4.184'), Fraction('1055.056'), Fraction('0.3048')
 KNOWN: dict[str, tuple[Fraction, Dimensions]] = {
     'W': (Fraction(1), POWER), 'kW': (Fraction(1000), POWER), 'MW': (Fraction(10 ** 6), POWER),
@@ -46,7 +47,14 @@ def fouling_resistance(value: Fraction, text: str) -> Fraction:
     try:
         return value * factor_of(text, RESISTANCE)
     except NoUnit:
-        return 1 / (value * coefficient_factor(text))
+        pass
+    try:
+        factor = coefficient_factor(text)
+    except NoUnit as fault:
+        raise NoUnit(f'`{text[:LONGEST]}` is not a unit of fouling, as m2K/kW or kW/m2K') from fault
+    if not value:
+        raise NoUnit('no fouling is a resistance of 0, as 0 m2K/kW, and no coefficient of 0')
+    return 1 / (value * factor)
 
 
 @lru_cache(maxsize=None)
@@ -60,7 +68,8 @@ def factor_of(text: str, wanted: Dimensions) -> Fraction:
     written = text.strip()
     for sign, plain in SIGNS.items():
         written = written.replace(sign, plain)
-    written = re.sub(r'\bsq\.?\s*(ft|m)\b', r'\g<1>2', written)
+    # A dash before a name joins units, as in Btu/hr-ft2-F; before a digit it is a minus.
+    written = re.sub(r'-(?=[A-Za-z°])', ' ', re.sub(r'\bsq\.?\s*(ft|m)\b', r'\g<1>2', written))
     above, *below = written.split('/')
     if len(text) > LONGEST or not SHAPE.fullmatch(written):
         raise NoUnit(f'`{text[:LONGEST]}` is not a known unit')
@@ -71,7 +80,7 @@ def factor_of(text: str, wanted: Dimensions) -> Fraction:
         factor *= KNOWN[name][0] ** power
         dimensions = [sum_of + power * own for sum_of, own in zip(dimensions, KNOWN[name][1])]
     if tuple(dimensions) != wanted:
-        raise NoUnit(f'`{text}` is not a unit of this kind, as {EXAMPLES[wanted]}')
+        raise NoUnit(f'`{text}` is not a unit of {KINDS[wanted]}')
     return factor
 
 

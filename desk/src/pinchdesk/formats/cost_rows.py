@@ -13,8 +13,8 @@ from fractions import Fraction
 from ..text import plain, read_again
 from .amounts import exact
 
-# How many fields a row has, and in what parts a number is written as a decimal.
-FIELDS, PLACES = 7, 10 ** 12
+# How many fields a row has, in what parts a number is written as a decimal, and the hours of the longest year.
+FIELDS, PLACES, MOST_HOURS = 7, 10 ** 12, 8784
 
 
 class Service(enum.Enum):
@@ -144,9 +144,14 @@ class UtilityRange:
 CostRow = Film | Overall | Material | CostLaw | Build | Capital | Annual | UtilityRange
 
 
+def number_of(text: str, what: str) -> Fraction:
+    """A number that has to be there; a `ValueError` where it is none."""
+    return exact(needed(text, what))
+
+
 def above_zero(text: str, what: str) -> Fraction:
     """A number above 0; a `ValueError` where it is none."""
-    number = exact(text)
+    number = number_of(text, what)
     if number <= 0:
         raise ValueError(f'the {what} has to be above 0, and is {text}')
     return number
@@ -154,16 +159,16 @@ def above_zero(text: str, what: str) -> Fraction:
 
 def from_zero(text: str, what: str) -> Fraction:
     """A number of at least 0; a `ValueError` where it is none."""
-    number = exact(text)
+    number = number_of(text, what)
     if number < 0:
         raise ValueError(f'the {what} has to be at least 0, and is {text}')
     return number
 
 
-def measured(value: str, unit: str) -> Measured:
+def measured(value: str, unit: str, what: str) -> Measured:
     """A number with its unit. A table may have none, or a number that is none of a coefficient: that is refused where
     it is needed."""
-    return Measured(exact(value), read_again(unit))
+    return Measured(number_of(value, what), read_again(unit))
 
 
 def needed(text: str, what: str) -> str:
@@ -180,12 +185,12 @@ def service_of(text: str) -> Service | None:
 
 
 def film_of(fields: Sequence[str]) -> Film:
-    fouling = measured(fields[3], fields[4]) if fields[3] or fields[4] else None
-    return Film(needed(fields[0], 'source'), measured(fields[1], fields[2]), fouling)
+    fouling = measured(fields[3], fields[4], 'fouling') if fields[3] or fields[4] else None
+    return Film(needed(fields[0], 'source'), measured(fields[1], fields[2], 'film coefficient'), fouling)
 
 
 def overall_of(fields: Sequence[str]) -> Overall:
-    return Overall(fields[0], fields[3], measured(fields[1], fields[2]))
+    return Overall(fields[0], fields[3], measured(fields[1], fields[2], 'overall coefficient'))
 
 
 def material_of(fields: Sequence[str]) -> Material:
@@ -196,7 +201,7 @@ def law_of(fields: Sequence[str]) -> CostLaw:
     fixed, factor = from_zero(fields[2], 'fixed cost'), from_zero(fields[3], 'factor')
     exponent = from_zero(fields[4], 'exponent')
     if exponent > 1:
-        raise ValueError(f'the exponent {fields[4]} is above 1')
+        raise ValueError(f'the exponent {fields[4]} is above 1: a larger area would cost more a m² than a smaller one')
     unit = needed(fields[5], 'unit of area')
     return CostLaw(service_of(fields[0]), read_again(fields[1]), fixed, factor, exponent, unit)
 
@@ -206,11 +211,13 @@ def build_of(fields: Sequence[str]) -> Build:
     if fields[1] not in flows:
         raise ValueError(f'`{fields[1]}` is not a way to build exchangers: counter-current or 1-2')
     if fields[5] not in pers:
-        raise ValueError(f'`{fields[5]}` cannot have a cost law: use shell or exchanger')
+        raise ValueError('the last field says what the cost law is of, shell or exchanger, and is '
+                         f'`{fields[5]}`')
     part = exact(fields[2]) if fields[2] else None
     if part is None and fields[1] == Flow.ONE_TWO.value or part is not None and not 0 < part < 1:
-        raise ValueError('a 1-2 shell needs the part of the greatest effectiveness that it may reach, as 0.9')
-    most = measured(fields[3], fields[4]) if fields[3] or fields[4] else None
+        raise ValueError('a 1-2 shell needs X, the part of the greatest effectiveness that it may reach: above 0 and '
+                         f'below 1, as 0.9, and not `{fields[2]}`')
+    most = measured(fields[3], fields[4], 'most area of a shell') if fields[3] or fields[4] else None
     return Build(service_of(fields[0]), flows[fields[1]], part, most, pers[fields[5]])
 
 
@@ -227,20 +234,33 @@ def annual_of(fields: Sequence[str]) -> Annual:
     if fields[0] not in forms:
         raise ValueError(f'`{fields[0]}` is not a way to make a cost annual: factor, recovery or compound')
     form = forms[fields[0]]
-    hours = above_zero(fields[3], 'number of hours') if fields[3] else None
+    hours = above_zero(fields[3], 'number of hours a year') if fields[3] else None
+    if hours and hours > MOST_HOURS:
+        raise ValueError(f'a year has at most {MOST_HOURS} hours, and not {fields[3]}')
     if form is AnnualForm.FACTOR:
-        return Annual(form, above_zero(fields[1], 'factor'), 0, hours)
-    years = exact(fields[2])
+        return Annual(form, factor_of(fields[1], fields[2]), 0, hours)
+    years = number_of(fields[2], 'number of years')
     if years.denominator != 1 or not 1 <= years <= 100:
         raise ValueError(f'a number of years is whole, 1 to 100, and not {fields[2]}')
     rate = from_zero(fields[1], 'interest')
-    if rate > 1:
-        raise ValueError(f'an interest of {fields[1]} is above 1: 10 % are 0.1')
+    if rate >= 1:
+        raise ValueError(f'an interest of {fields[1]} is 100 % or more: 10 % are 0.1')
     return Annual(form, rate, int(years), hours)
 
 
+def factor_of(text: str, years: str) -> Fraction:
+    """An annual factor that is given; a `ValueError` where it may be an interest, or a number of years."""
+    factor = above_zero(text, 'annual factor')
+    if years:
+        raise ValueError(f'an annual factor has no years beside it: an interest of {text} over {years} years is '
+                         'recovery or compound')
+    if factor > 1:
+        raise ValueError(f'the annual factor {text} is above 1, more than the whole capital each year')
+    return factor
+
+
 def range_of(fields: Sequence[str]) -> UtilityRange:
-    supply, target = exact(fields[1]), exact(fields[2])
+    supply, target = number_of(fields[1], 'real supply'), number_of(fields[2], 'real target')
     return UtilityRange(needed(fields[0], 'utility'), supply, target, needed(fields[3], 'unit of temperature'))
 
 

@@ -10,10 +10,14 @@ from ..costs.areas_beside import AreasBeside
 from ..costs.enclosure import Enclosure
 from ..costs.network_areas import ExchangerArea, NetworkAreas
 from ..costs.network_costs import ExchangerPrice, NetworkCosts
+from ..formats.cost_rows import Flow
 from ..formats.shown import Shown, decimal
 from .cost_sheets import area_target_notes, certain, cost_facts, currency_of, metres, money, notes_sheets
 from .facts import Fact, FactRow, FactTable
 from .sheet import Cell, Sheet
+
+FORMULA_IN_SHELLS = 'the area by the formula is that of counter-current flow, and that of the network has Ft of its ' \
+                    '1-2 shells in it: so has the area efficiency'
 
 
 def area_facts(exchanger: ExchangerArea, shown: Shown) -> FactRow:
@@ -60,7 +64,16 @@ def network_facts(areas: NetworkAreas, costs: NetworkCosts | None) -> FactRow:
 
 def network_notes(areas: NetworkAreas) -> list[str]:
     """Where the real ends of a utility leave no approach, and what the target beside is."""
-    return [*map(str, areas.faults), *(area_target_notes(areas.target) if areas.target else [])]
+    return [*map(str, areas.faults), *formula_notes(areas)]
+
+
+def formula_notes(areas: NetworkAreas) -> list[str]:
+    """What the area by the formula beside a network is."""
+    if areas.target is None:
+        return []
+    notes = area_target_notes(areas.target)
+    flows = {areas.data.build(exchanger.service).flow for exchanger in areas.exchangers}
+    return [*notes, FORMULA_IN_SHELLS] if Flow.ONE_TWO in flows else notes
 
 
 def costliest_sheets(costs: NetworkCosts | None) -> list[Sheet]:
@@ -112,9 +125,7 @@ def beside_notes(beside: AreasBeside) -> list[str]:
     if beside.target.lacking:
         what = 'costs' if beside.target.area else 'areas'
         notes.append(f'targets of {what} are not shown: {beside.target.lacking}')
-    if beside.areas.target:
-        notes += area_target_notes(beside.areas.target)
-    return [*notes, *(beside.target.cost.remarks if beside.target.cost else ())]
+    return [*notes, *formula_notes(beside.areas), *(beside.target.cost.remarks if beside.target.cost else ())]
 
 
 def table_areas(beside: AreasBeside) -> list[Sheet]:

@@ -74,10 +74,11 @@ def annual_facts(costs: NetworkCosts) -> FactRow:
 def target_facts(target: CostTarget, least: AreaFloor | None = None) -> FactRow:
     """The targets of a case, with the floor of the area where it was asked for."""
     shells = target.shells
+    counted = (Fact('shells', Decimal(target.parts)),) if target.parts > target.units and not shells else ()
     return (*area_target_facts(target.area),
             *(floor_facts(least, Shown(target.data.case.basis)) if least else ()), Fact('units', Decimal(target.units)),
             *((Fact('1-2 shells', Decimal(shells.shells)), Fact('area in 1-2 shells', metres(shells.area), 'm²'))
-              if shells else ()),
+              if shells else counted),
             *cost_facts(target.cost, currency_of(target.data)))
 
 
@@ -103,8 +104,10 @@ def target_notes(target: CostTarget) -> list[str]:
     return [*area_target_notes(target.area), *target.remarks]
 
 
-def point_facts(point: SupertargetPoint, shown: Shown, currency: str, remark: str = '') -> FactRow:
-    shells = (Fact('shells', Decimal(point.shells)),) if point.shells else ()
+def point_facts(point: SupertargetPoint, shown: Shown, currency: str, counted: bool, remark: str = '') -> FactRow:
+    """A point of a supertarget; where its shells are `counted` they stand there also where the flow is
+    counter-current."""
+    shells = (Fact('shells', Decimal(point.shells or point.parts)),) if point.shells or counted else ()
     return (Fact('least difference', Decimal(shown.kelvin(point.difference, 3)), shown.difference_unit),
             Fact('hot', Decimal(shown.heat(point.hot)), shown.heat_unit),
             Fact('cold', Decimal(shown.heat(point.cold)), shown.heat_unit),
@@ -118,7 +121,8 @@ def supertarget_table(found: Supertarget) -> FactTable:
     least = found.least.point
     between = (least,) if least.found else ()
     points = sorted((*found.points, *between), key=lambda point: point.difference)
-    rows = tuple(point_facts(point, shown, currency, remark_of(point, found)) for point in points)
+    counted = any(point.parts > point.units for point in points)
+    rows = tuple(point_facts(point, shown, currency, counted, remark_of(point, found)) for point in points)
     marked = frozenset(at for at, point in enumerate(points) if point is least)
     return FactTable('Cost over the least difference', rows, marked)
 

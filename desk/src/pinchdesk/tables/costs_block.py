@@ -258,7 +258,14 @@ def cost_rows_of(costs: Table, mark: str | None, told: Told) -> tuple[CostRow, .
         verb = 'is' if len(lacking) == 1 else 'are'
         faults.append(costs.refusal(first, None, f'of the costs {" and ".join(lacking)} {verb} missing'))
         return ()
+    if is_number(named['annual factor']):
+        notes += [f'{costs.place(named[name].row.number)}: passed over, since `annual factor` is a number: '
+                  f'`{named[name].label}`' for name in ('interest', 'years') if name in named]
     return collected(reader, [*map(reader.law, laws), *SingleRows(reader, named).rows()], laws[0])
+
+
+def is_number(line: CostLine) -> bool:
+    return line.value.number is not None or line.value.text[:1].isdigit()
 
 
 def collected(reader: CostsReader, rows: Sequence[CostRow | None], line: CostLine) -> tuple[CostRow, ...]:
@@ -310,7 +317,7 @@ class SingleRows:
     def annual(self) -> CostRow | None:
         """The cost of a year, by a factor that is given, or by interest and years in one of the forms of books."""
         line, hours = self.named['annual factor'], self.bare('hours a year')
-        if line.value.number is not None or line.value.text[:1].isdigit():
+        if is_number(line):
             factor = self.bare('annual factor')
             return self.reader.row(line, '#annual', 'factor', factor, '', hours) if factor else None
         form = self.reader.word(line, FORMS)
