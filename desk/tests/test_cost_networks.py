@@ -88,7 +88,8 @@ def test_an_approach_that_real_ends_do_not_leave_is_reported(pinch: Pinch) -> No
 
 
 def test_a_difference_of_0_is_refused_with_its_place(pinch: Pinch) -> None:
-    with pytest.raises(Refused, match='exchanger W1: at its hot end the difference is 0 K: no area is large enough'):
+    with pytest.raises(Refused, match='^network exchanger W1: at its hot end the difference is 0 K with the real '
+                       'ends of its utility: no area is large enough. It needs a smaller duty, or other real ends'):
         areas(SMALL.replace('#range,W,20,30', '#range,W,20,75'), pinch)
 
 

@@ -71,6 +71,18 @@ def test_a_network_that_is_not_accepted_ends_as_rejected() -> None:
     assert (fault.value.status, fault.value.no) == (Status.NO, 'rejected')
 
 
+def test_an_exchanger_that_no_area_is_enough_for_is_refused_with_the_network() -> None:
+    case = SMALL.replace('#range,W,20,30', '#range,W,20,75').encode()
+    with pytest.raises(Refused, match='^network.txt: network exchanger W1: at its hot end the difference is 0 K'):
+        cost(files_of(case=case, network=NETWORK.encode()))
+
+
+def test_what_is_open_is_reported() -> None:
+    network = NETWORK.replace('S1', 'open-1').encode()
+    assert cost(files_of(case=SMALL.encode(), network=network)).notes == (
+        'network.txt: unfinished, 1 open (open-1 of C): what is open counts as served by utilities',)
+
+
 def test_without_a_heat_flow_there_is_its_cut(pinch: Pinch) -> None:
     case = example(CASE).replace(b'cooler,CW,200,0,1000000000000', b'cooler,CW,200,0,1000000')
     assert isinstance(pinch.flow(case), Cut)

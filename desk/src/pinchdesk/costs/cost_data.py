@@ -32,6 +32,11 @@ def refused(what: str, cause: str) -> Refused:
     return Refused(3, f'case {what}', 'cost data', f'case {what}: {cause}')
 
 
+def refused_exchanger(name: str, cause: str) -> Refused:
+    """A refusal of the area or the price of an exchanger of a network."""
+    return Refused(4, f'network exchanger {name}', 'cost data', f'network exchanger {name}: {cause}')
+
+
 def missing(what: str, enter: str) -> Refused:
     return Refused(3, f'case {what}', MISSING, f'case {what} is missing: enter a row `{enter}`')
 

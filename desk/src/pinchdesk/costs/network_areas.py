@@ -22,7 +22,7 @@ from ..program.run import CaseText, NetworkText, Pinch
 from ..program.verdicts import Accepted, Rejected, TooFine, ending
 from .annual import at_most
 from .area_target import AreaTarget, area_target
-from .cost_data import CostData, EndTemperatures, refused
+from .cost_data import CostData, EndTemperatures, refused_exchanger
 from .enclosure import Enclosure, enclosed, total
 from .log_mean import log_mean
 from .shells import Duty, corrections, shells_of, whole_shells
@@ -221,8 +221,10 @@ def part_of_area(data: CostData, name: str, passage: Passage, duty: Duty, warmer
     """A part of an exchanger, or the whole of it; `name` is that of the whole."""
     for end, found in differences(duty):
         if found <= 0:
-            raise refused(f'exchanger {name}', f'at its {end} end the difference is {decimal(found, 2)} K: no area is '
-                          'large enough')
+            ranged = any(side.source.name in data.ranges for side in (passage.hot, passage.cold))
+            real, or_other = (' with the real ends of its utility', ', or other real ends') if ranged else ('', '')
+            raise refused_exchanger(name, f'at its {end} end the difference is {decimal(found, 2)} K{real}: no area is '
+                                    f'large enough. It needs a smaller duty{or_other}')
     wide = Duty(EndTemperatures(duty.hot.inlet + 10 * warmer, duty.hot.outlet + 10 * warmer), duty.cold)
     return PartOfArea(data.watts(passage.exchanger.duty), wide,
                       data.coefficient(passage.hot.source, passage.cold.source),
@@ -240,7 +242,8 @@ def in_series(build: Build, name: str, parts: Sequence[PartOfArea]) -> tuple[int
     shells = whole_shells(total(shells_of(part.ends, build.part) for part in parts))
     factors = corrections([part.ends for part in parts], build.part, shells) if shells <= MOST_SHELLS else None
     if factors is None:
-        raise refused(f'exchanger {name}', f'{shells} shells of 1-2 flow cannot do its duty: take it counter-current')
+        raise refused_exchanger(name, f'{shells} shells of 1-2 flow cannot do its duty: build it counter-current by a '
+                                'row `#build`, or with a larger X')
     enough = at_most(build, area_with(parts, factors))
     return series_of(build, parts, shells, enough) if shells < enough else (shells, factors)
 

@@ -10,7 +10,7 @@ from ..formats.case import Case, completed, read_case
 from ..program.run import CaseText, NetworkText, Pinch
 from ..program.verdicts import Accepted
 from .annual import AnnualCost, annual_cost, price_of, priced_parts
-from .cost_data import CostData, refused
+from .cost_data import CostData, refused_exchanger
 from .enclosure import Enclosure, total
 from .network_areas import ExchangerArea, NetworkAreas, accepted_network, areas_of, exchanger_area, passages_of
 
@@ -78,8 +78,8 @@ def price_in(data: CostData, passage: Passage, exchanger: ExchangerArea) -> Encl
     materials = sorted({data.materials(part.hot.source, part.cold.source) for part in passage.parts})
     if len(materials) > 1:
         told = ' and '.join(material or 'no material' for material in materials)
-        raise refused(f'exchanger {exchanger.name}', f'its parts are of {told}, and it has one price: enter one '
-                      '`#material` for the whole stream')
+        raise refused_exchanger(exchanger.name, f'its parts are of {told}, and it has one price: enter one row '
+                                '`#material,STREAM,MATERIAL,,,,` for the whole stream')
     law = data.law(exchanger.service, materials[0])
     parts = priced_parts(data.build(exchanger.service), 1, exchanger.shells)
     return price_of(data, law, exchanger.area, parts)

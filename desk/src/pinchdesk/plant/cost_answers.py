@@ -6,6 +6,7 @@ from dataclasses import dataclass, field
 from decimal import Decimal
 from typing import TYPE_CHECKING
 
+from ..analysis.unfinished import unfinished_told
 from ..costs.area_floor import AreaFloor, area_floor
 from ..costs.area_target import NoHeatFlow
 from ..costs.areas_beside import tried
@@ -59,13 +60,14 @@ def asked_areas(pinch: Pinch, case: Case, network: bytes) -> PlantAreas:
     passages = passages_of(followed)
     areas = areas_of(CostData(case), passages, verdict)
     costs, lacking = tried(lambda: costs_of(areas, passages))
-    return plant_areas(areas, costs, lacking)
+    return plant_areas(areas, costs, lacking, unfinished_told(followed))
 
 
-def plant_areas(areas: NetworkAreas, costs: NetworkCosts | None, lacking: str) -> PlantAreas:
+def plant_areas(areas: NetworkAreas, costs: NetworkCosts | None, lacking: str, unfinished: str) -> PlantAreas:
     sheets = [exchangers_table(areas, costs).sheet(), lines_sheet('All', network_facts(areas, costs)),
               *costliest_sheets(costs)]
-    notes = [*network_notes(areas), *([f'costs are not shown: {lacking}'] if lacking else [])]
+    notes = [*([f'{unfinished}: what is open counts as served by utilities'] if unfinished else []),
+             *network_notes(areas), *([f'costs are not shown: {lacking}'] if lacking else [])]
     return PlantAreas(sheets=tuple(sheets), notes=tuple(notes), areas=areas, costs=costs)
 
 

@@ -13,8 +13,8 @@ from ..program.run import Pinch
 from ..report.answer_sheets import cut_table
 from ..report.facts import lines_sheet
 from ..search.budget import Telling, nobody
-from .shared import CASE, FILM, NETWORK, SHOWN_IN, CaseShown, case_with_film
-from .word import Answer, Files, Option, Role, Word, feasibility
+from .shared import CASE, FILM, NETWORK, SHOWN_IN, CaseShown, case_with_film, open_notes
+from .word import Answer, Files, Option, Role, TextFile, Word, feasibility
 
 MEASURED = Role(NETWORK.name, 'a network, whose exchangers have their areas and costs', needed=False)
 FLOOR = Option('floor', 'also the area that no network with the same utilities is under, with slices as fine as these '
@@ -34,8 +34,8 @@ def cost(files: Files, options: CostOptions = CostOptions(), tell: Telling = nob
     file, network = files.one('case'), files.get('network')
     with about(case=file.name, network=network.name if network else ''):
         case, notes = case_with_film(file, options.film)
-        answer = of_network(case, network.content) if network else of_case(case, options)
-    return replace(answer, notes=notes)
+        answer = of_network(case, network) if network else of_case(case, options)
+    return replace(answer, notes=(*notes, *answer.notes))
 
 
 def of_case(case: Case, options: CostOptions) -> Answer:
@@ -53,16 +53,19 @@ def of_case(case: Case, options: CostOptions) -> Answer:
     return Answer((lines_sheet('Targets', facts), *notes_sheets(target_notes(target))), facts=(facts,))
 
 
-def of_network(case: Case, network: bytes) -> Answer:
+def of_network(case: Case, network: TextFile) -> Answer:
     """The exchangers of an accepted network, and their sums."""
+    from ..analysis.follow import follow
     from ..costs.network_costs import network_costs
+    from ..formats.network import read_network
     from ..report.area_sheets import exchangers_table, network_facts, network_notes
     from ..report.cost_sheets import notes_sheets
-    costs = network_costs(case, network, Pinch())
+    costs = network_costs(case, network.content, Pinch())
     areas = costs.areas
     facts = network_facts(areas, costs)
     sheets = (exchangers_table(areas, costs).sheet(), lines_sheet('All', facts), *notes_sheets(network_notes(areas)))
-    return Answer(sheets, facts=(facts,), headline='; '.join(map(str, areas.faults)))
+    return Answer(sheets, facts=(facts,), headline='; '.join(map(str, areas.faults)),
+                  notes=open_notes(network, follow(case, read_network(network.content))))
 
 
 COST = Word('cost', 'area, units, shells, capital and annual cost: targets, or of a network',
