@@ -1,6 +1,7 @@
 """What words say and do of utilities with a range: tables, answers, networks, the page, and what is left."""
 from __future__ import annotations
 
+import re
 from dataclasses import replace
 from fractions import Fraction
 from pathlib import Path
@@ -208,7 +209,9 @@ def test_costs_a_year_have_them_beside(plant: Path) -> None:
     text = rows + (plant / 'case.csv').read_text(encoding='utf-8')
     (plant / 'cost.csv').write_text(text, encoding='utf-8')
     out = answer('cost', 'cost.csv', cwd=plant).out
-    assert 'utilities with a range a year' in out and '7771.2' in out and 'annual cost with these' in out
+    shown = {name: float(number) for name, number in re.findall(r'^([a-z ]+ a year|annual cost) +([0-9.]+)', out, re.M)}
+    assert shown['utilities with a range a year'] == 7771.2
+    assert abs(sum(shown.values()) - 2 * shown['annual cost']) < 0.02
 
 
 def test_coefficients_of_them_are_kept(pinch: Pinch) -> None:

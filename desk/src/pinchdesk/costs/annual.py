@@ -24,8 +24,8 @@ class AnnualCost:
 
     @property
     def whole(self) -> Enclosure:
-        """Capital and energy together, a year, without the utilities with a range."""
-        return self.capital_a_year + self.energy
+        """All of it a year."""
+        return self.capital_a_year + (self.energy + self.ranges)
 
 
 def annual_cost(data: CostData, capital: Enclosure, cost: int | Fraction) -> AnnualCost:

@@ -1,12 +1,13 @@
 """Areas and costs of the exchangers of a network as tables, and beside the targets of its case."""
 from __future__ import annotations
 
-from collections.abc import Callable
+from collections.abc import Callable, Iterator
 from decimal import Decimal
 from fractions import Fraction
 
 from ..costs.annual import AnnualCost
 from ..costs.areas_beside import AreasBeside
+from ..costs.cost_target import CostTarget
 from ..costs.enclosure import Enclosure
 from ..costs.network_areas import ExchangerArea, NetworkAreas
 from ..costs.network_costs import ExchangerPrice, NetworkCosts
@@ -97,21 +98,35 @@ def beside_sheet(beside: AreasBeside, areas: NetworkAreas) -> Sheet:
         ('area efficiency', efficiency, None, None, '%'),
         ('exchangers', Decimal(len(areas.exchangers)), None, Decimal(target.cost.units) if target.cost else None, '')]
     costs, wanted = beside.costs, target.cost
-    shells = wanted.shells.shells if wanted and wanted.shells else None
+    shells = shells_of_target(wanted) if wanted else None
     if shells or areas.shells > len(areas.exchangers):
         rows.append(('shells', Decimal(areas.shells), None, None if shells is None else Decimal(shells), ''))
-    for name, part in MONEY if costs else ():
-        currency = currency_of(areas.data)
-        unit = currency if name == 'capital' else f'{currency}/a'
-        rows.append((name, money(part(costs.cost)) if costs else None, None,
-                     money(part(wanted.cost)) if wanted else None, unit))
+    if costs:
+        rows += money_rows(costs.cost, wanted.cost if wanted else None, currency_of(areas.data))
     return Sheet('Areas and costs', ('', 'network', 'formula with the same utilities', 'target', ''),
                  tuple(row for row in rows if any(isinstance(cell, Decimal) for cell in row)))
 
 
-MONEY: tuple[tuple[str, Callable[[AnnualCost], Enclosure]], ...] = (
+def shells_of_target(target: CostTarget) -> int | None:
+    """The shells of a target, where they are counted."""
+    if target.shells:
+        return target.shells.shells
+    return target.parts if target.parts > target.units else None
+
+
+def money_rows(cost: AnnualCost, target: AnnualCost | None, currency: str) -> Iterator[tuple[Cell, ...]]:
+    """What a network costs beside the target."""
+    for name, part in MONEY:
+        if name != RANGES or cost.ranges:
+            yield (name, money(part(cost)), None, money(part(target)) if target else None,
+                   currency if name == 'capital' else f'{currency}/a')
+
+
+RANGES = 'utilities with a range a year'
+MONEY: tuple[tuple[str, Callable[[AnnualCost], Enclosure | Fraction]], ...] = (
     ('capital', lambda cost: cost.capital), ('capital a year', lambda cost: cost.capital_a_year),
-    ('energy a year', lambda cost: cost.whole - cost.capital_a_year), ('annual cost', lambda cost: cost.whole))
+    ('energy a year', lambda cost: cost.energy), (RANGES, lambda cost: cost.ranges),
+    ('annual cost', lambda cost: cost.whole))
 
 
 def beside_notes(beside: AreasBeside) -> list[str]:

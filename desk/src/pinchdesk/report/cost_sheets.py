@@ -50,19 +50,16 @@ def notes_sheets(notes: Sequence[str]) -> list[Sheet]:
 
 
 def cost_facts(cost: AnnualCost, currency: str) -> FactRow:
-    """Capital and the cost of a year with its two parts."""
+    """Capital and the cost of a year with its parts."""
     return (Fact('capital', money(cost.capital), currency),
             Fact('capital a year', money(cost.capital_a_year), f'{currency}/a'),
             Fact('energy a year', money(cost.energy), f'{currency}/a'),
-            Fact('annual cost', money(cost.whole), f'{currency}/a'), *beside_facts(cost, currency))
+            *range_facts(cost, currency), Fact('annual cost', money(cost.whole), f'{currency}/a'))
 
 
-def beside_facts(cost: AnnualCost, currency: str) -> FactRow:
-    """What the utilities with a range cost a year, where a case has some, and the annual cost with it."""
-    if not cost.ranges:
-        return ()
-    return (Fact('utilities with a range a year', money(cost.ranges), f'{currency}/a'),
-            Fact('annual cost with these', money(cost.whole + cost.ranges), f'{currency}/a'))
+def range_facts(cost: AnnualCost, currency: str) -> FactRow:
+    """What the utilities with a range cost a year, where a case has some: the energy is without them."""
+    return (Fact('utilities with a range a year', money(cost.ranges), f'{currency}/a'),) if cost.ranges else ()
 
 
 def annual_facts(costs: NetworkCosts) -> FactRow:
