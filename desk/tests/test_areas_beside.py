@@ -80,8 +80,9 @@ def test_without_a_cost_law_there_are_areas_alone() -> None:
     answer = table(files_of(without('#law')))
     assert sheets_of(answer)['Areas'].headings[-1] == 'area m²'
     assert [row[0] for row in sheets_of(answer)['Areas and costs'].rows] == ['area', 'area efficiency', 'exchangers']
-    assert [str(note).partition(':')[0] for note in notes_of(answer)[:2]] == [
-        'costs are not shown', 'targets of costs are not shown']
+    assert [note for note in map(str, notes_of(answer)) if 'not shown' in note] == [
+        'costs are not shown: case cost law of an exchanger is missing: enter a row '
+        '`#law,exchanger,,FIXED,FACTOR,EXPONENT,m2`']
 
 
 def test_an_approach_that_real_ends_do_not_leave_is_in_the_headline() -> None:

@@ -116,11 +116,12 @@ def without_films() -> str:
     return ''.join(f'{row}\n' for row in SMALL.split('\n') if row and not row.startswith('#film'))
 
 
-@pytest.mark.parametrize(('name', 'area', 'formula', 'bound'), [('aromatics', '17672', '16984', False),
-                                                                ('10sp1', '285.49', '229.18', True)])
+@pytest.mark.parametrize(('name', 'area', 'formula', 'bound'), [
+    ('aromatics', '17672', '16984', False), ('10sp1', '285.49', '229.18', True), ('bn15', '3302.96', '2915.43', False)])
 def test_examples_have_their_published_coefficients(name: str, area: str, formula: str, bound: bool,
                                                     pinch: Pinch) -> None:
-    """The coefficients, and the real ends of the utilities that the program adds, are comments of the cases."""
+    """The coefficients, and the real ends of the utilities that the program adds, are comments of the cases; the areas
+    by a second program."""
     case = completed(read_case(example(f'{name}.csv')))
     found = network_areas(case, example(f'{name}-network.txt'), pinch)
     target = asked_area(pinch, case)

@@ -137,7 +137,7 @@ def beside_notes(beside: AreasBeside) -> list[str]:
         return [*notes, f'areas are not shown: {beside.lacking}']
     if beside.costs is None:
         notes.append(f'costs are not shown: {beside.lacking}')
-    if beside.target.lacking:
+    if beside.target.lacking and (beside.costs or beside.target.lacking != beside.lacking):
         what = 'costs' if beside.target.area else 'areas'
         notes.append(f'targets of {what} are not shown: {beside.target.lacking}')
     return [*notes, *formula_notes(beside.areas), *(beside.target.cost.remarks if beside.target.cost else ())]
