@@ -12,6 +12,7 @@ from pinchdesk import Pinch
 from pinchdesk.costs.area_floor import area_floor
 from pinchdesk.costs.area_target import area_target
 from pinchdesk.costs.cost_data import EndTemperatures
+from pinchdesk.costs.network_areas import network_areas
 from pinchdesk.costs.network_costs import network_costs
 from pinchdesk.costs.shells import Duty, correction, shells_of, whole_shells
 from pinchdesk.costs.supertarget import Supertarget, supertarget
@@ -172,3 +173,62 @@ def test_shells_and_area_of_a_textbook_exchanger() -> None:
     factor = correction(duty, 3)
     assert factor and abs(factor.middle - Fraction('0.86365')) < Fraction(5, 10 ** 5)
     assert near(35000 / (factor * duty.mean), '618.9')
+
+
+# Exchangers with films and fouling, through a case and a network.
+
+ONE = 'exchanger E {hot} {cold} {heat}\npass {hot} E a\nend a\npass {cold} E b\nend b\n'
+
+
+def test_the_double_pipe_of_kern_1950(pinch: Pinch) -> None:
+    """Example 6.1: toluene 160 to 100 °F warms benzene 80 to 120 °F by 167,000 Btu/h; films of 323 and 276 Btu/(h ft²
+    °F) and 0.001 of fouling on each make 115; the surface is 50.5 ft². Its log mean of 28.8 °F is 20/ln 2, 28.854,
+    cut off. CPs are in 5/3."""
+    case = '#units,°F,Btu/h,65941/225000,10,0,6\n#build,,counter-current,,,,exchanger\ncontribution,,100,,,,\n' \
+           'hot,TOL,1600,1000,1670,,\ncold,BEN,800,1200,2505,,\n#film,TOL,323,Btu/(h ft2 °F),0.001,h ft2 °F/Btu,\n' \
+           '#film,BEN,276,Btu/h-ft2-F,0.001,h ft2 F/Btu,\n'
+    exchanger = network_areas(case, ONE.format(hot='TOL', cold='BEN', heat=6 * 167_000), pinch).exchangers[0]
+    foot = Fraction('0.3048')
+    assert near(exchanger.mean * Fraction(9, 5), '28.9') and near(exchanger.area / foot ** 2, '50.5')
+    assert exchanger.coefficient
+    assert round(exchanger.coefficient * 3600 * foot ** 2 / Fraction('1055.056') * Fraction(5, 9)) == 115
+
+
+def test_the_multipass_exchanger_of_cengel(pinch: Pinch) -> None:
+    """Chapter 11, glycerin 20 to 50 °C by water 80 to 40 °C in two shell passes and four tube passes: 24.7 °C and a
+    factor of 0.91 from a chart; films of 160 and 25 make 21.6, with a fouling of 0.0006 m²K/W on one side 21.3
+    W/(m²K), and 3.77 m² pass 1,830 and 1,805 W."""
+    duty = exchanger('80', '40', '20', '50')
+    factor = correction(duty, 2)
+    assert near(duty.mean, '24.7') and factor and near(factor, '0.91')
+    for fouling, coefficient, heat in (('', '21.6', 1830), ('0.0006', '21.3', 1805)):
+        case = costed_case(10, 'W 80 40 0.6, G 20 50 0.8', '', '', '#film,W,160,W/m2K,,,',
+                           f'#film,G,25,W/m2K,{fouling},{"m2K/W" if fouling else ""},',
+                           *law_rows('0', '1', '1', 'factor', '1'))
+        found = network_areas(case, ONE.format(hot='W', cold='G', heat=24_000), pinch).exchangers[0]
+        assert found.coefficient and abs(found.coefficient - Fraction(coefficient)) < Fraction(1, 20)
+        # The example rounds the factor, the coefficient and the mean.
+        passed = Fraction('3.77') * found.coefficient * (factor * duty.mean).middle
+        assert abs(passed / heat - 1) < Fraction(1, 200)
+
+
+def test_the_condenser_and_the_oil_cooler_of_incropera(pinch: Pinch) -> None:
+    """Chapter 11. Steam of 50 °C condenses and warms water from 20 °C by 2·10⁹ W, 30,000 kg/s at 4,179 J/(kg K) to
+    36.0 °C: the log mean is 21.0 °C, films of 7,552 and 11,000 make 4,478 W/(m²K), and 30,000 tubes of 25 mm with two
+    passes are 4.51 m long; here a thousandth of all. Oil is cooled from 100 to 60 °C by water from 30 to 40.2 °C: 43.2 °C."""
+    water = Fraction(2 * 10 ** 9, 30_000 * 4179)
+    duty = exchanger('50', '50', '20', str(20 + water))
+    assert near(duty.mean, '21.0') and near(exchanger('100', '60', '30', '40.2').mean, '43.2')
+    case = costed_case(10, '', '', '', 'hot,S,500,500,0,2000000,', 'cold,W,200,360,12500,,',
+                       '#film,S,11000,W/m2K,,,', '#film,W,7552,W/m2K,,,', *law_rows('0', '1', '1', 'factor', '1'))
+    found = network_areas(case, ONE.format(hot='S', cold='W', heat=2 * 10 ** 6), pinch).exchangers[0]
+    assert found.coefficient and round(found.coefficient) == 4478
+    assert near(found.area / (30 * 2 * Fraction('3.14159265') * Fraction('0.025')), '4.51')
+
+
+@pytest.mark.parametrize(('interest', 'years', 'factor'), [
+    ('0.06', 20, '0.08718'), ('0.08', 10, '0.14903'), ('0.12', 15, '0.14682'), ('0.1', 5, '0.26380')])
+def test_capital_recovery_factors_are_those_of_tables(interest: str, years: int, factor: str) -> None:
+    """(A/P, i, n) of any book on engineering economy."""
+    case = REACTORS.replace('recovery,0.1,5', f'recovery,{interest},{years}')
+    assert abs(data_of(case).annual_factor - Fraction(factor)) < Fraction(1, 2 * 10 ** 5)
