@@ -215,7 +215,8 @@ def test_the_multipass_exchanger_of_cengel(pinch: Pinch) -> None:
 def test_the_condenser_and_the_oil_cooler_of_incropera(pinch: Pinch) -> None:
     """Chapter 11. Steam of 50 °C condenses and warms water from 20 °C by 2·10⁹ W, 30,000 kg/s at 4,179 J/(kg K) to
     36.0 °C: the log mean is 21.0 °C, films of 7,552 and 11,000 make 4,478 W/(m²K), and 30,000 tubes of 25 mm with two
-    passes are 4.51 m long; here a thousandth of all. Oil is cooled from 100 to 60 °C by water from 30 to 40.2 °C: 43.2 °C."""
+    passes are 4.51 m long; here a thousandth of all. Oil is cooled from 100 to 60 °C by water from 30 to 40.2 °C:
+    43.2 °C."""
     water = Fraction(2 * 10 ** 9, 30_000 * 4179)
     duty = exchanger('50', '50', '20', str(20 + water))
     assert near(duty.mean, '21.0') and near(exchanger('100', '60', '30', '40.2').mean, '43.2')

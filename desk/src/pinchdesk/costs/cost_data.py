@@ -246,7 +246,7 @@ class CostData:
                           'a table with a unit of prices')
         fault = two_moneys(money.strip(), self.capital.currency)
         if fault:
-            raise refused('currency of the prices', fault)
+            raise refused('currency of the prices', f'{fault}; prices and cost laws need one currency')
         if time == 'h' and self.annual.hours is None:
             raise missing('number of hours a year', f'#annual,{self.annual.form.value},..,HOURS,,')
         hours = self.annual.hours if time == 'h' and self.annual.hours else Fraction(1)
