@@ -33,9 +33,8 @@ from pinchdesk.report.exchangers import exchangers_sheet, segments_sheets, strea
 from pinchdesk.report.rest_sheets import rest_facts
 from pinchdesk.report.unit_sheets import units_table
 from pinchdesk.report.what_if_sheets import plus_minus_table
-from pinchdesk.search.accepted import AcceptedNetwork, Judge
+from pinchdesk.search.accepted import Judge
 from pinchdesk.search.budget import SearchWay
-from pinchdesk.search.find import FewestInPlant
 
 
 def followed_of(case: str, network: str) -> Followed:
@@ -320,7 +319,7 @@ def test_a_search_counts_the_exchangers_of_the_plant(pinch: Pinch) -> None:
     found = find_network(FEED, pinch=pinch, way=SearchWay(steps=1, workers=1), start=FEED_NETWORK)
     assert found.exchangers == network_count(completed(read_case(FEED)), found.network) <= 4
     assert f'{len(found.network.exchangers)} in the program, which has segments as streams' in found.text
-    assert 'in the program, each segment a stream of its own,' in found.bounds
+    assert found.bounds.startswith('bound: at least ') and 'in the program' not in found.bounds
     assert found.rule == 3
 
 
@@ -332,11 +331,7 @@ def test_of_networks_that_are_found_one_with_the_fewest_exchangers_of_the_plant_
     apart = judge.accepted(FEED_NETWORK.replace('pass e E2 f', 'pass e E5 f').replace('pass g E5 h', 'pass g E2 h')
                            .replace('exchanger E5 H COLD 95000', 'exchanger E5 H COLD 10000\nexchanger E7 H COLD 85000')
                            .replace('end h', 'pass h E7 i\nend i'))
-    told: list[AcceptedNetwork] = []
-    fewest = FewestInPlant(case, told.append)
-    for found in (apart, joined_one, apart):
-        fewest.see(found)
-    assert fewest.best is joined_one and fewest.fewest == 4 and told == [apart, joined_one, apart]
+    assert (joined_one.in_plant, joined_one.count) == (4, 6) and joined_one.rank < apart.rank
 
 
 def test_an_exchanger_that_is_one_in_the_plant_has_one_area(pinch: Pinch) -> None:

@@ -12,17 +12,18 @@ from pinchdesk import Cut, Pinch, completed, read_case
 from pinchdesk.formats.case import Case, Side
 from pinchdesk.search.accepted import Judge, Judged
 from pinchdesk.search.reduce.least_cost import cheapest
-from pinchdesk.search.reduce.structure import Parting, Through
+from pinchdesk.search.reduce.structure import Parting, Structure, Through
 from pinchdesk.search.reduce.widen import pairs_of
 from pinchdesk.search.staged.windows import Window, WindowPiece, whole, windows
 from pinchdesk.search.ticking.completing import completion
-from pinchdesk.search.ticking.window_courses import BESIDE, CORNER_TOP, STRETCH, WHOLE, Chain, Tick, window_network
+from pinchdesk.search.ticking.window_courses import (BESIDE, CORNER_TOP, STRETCH, TOP, WHOLE, Chain, ChainEnd, Tick,
+                                                     window_network)
 from pinchdesk.search.ticking.crew import JobCrew
-from pinchdesk.search.ticking.descent import Descent
+from pinchdesk.search.ticking.descent import LEAST_PART, Descent
 from pinchdesk.search.ticking.float_duties import FloatDuties, least_point
 from pinchdesk.search.ticking.growing import Growing, grown
 from pinchdesk.search.ticking.heat_left import HeatLeft
-from pinchdesk.search.ticking.jobs import StartJob
+from pinchdesk.search.ticking.jobs import ChainJob, DropJob, StartJob, WholeEnd, end_of
 from pinchdesk.search.ticking.joining import joined_windows
 from pinchdesk.search.ticking.plant_search import JobRow, Pace, PlantSearch
 from pinchdesk.search.ticking.ruin import run_chain
@@ -207,3 +208,38 @@ def test_a_thinned_structure_has_duties_for_all_that_is_left(pinch: Pinch) -> No
     assert less is not None and less.count == len(less.structure.pairs) <= len(structure.pairs)
     assert min(less.duties) > 0
     assert thinned(case, structure, Fraction(flow.cost) * Fraction(99, 100) - 1, Random(1)) is None
+
+
+def test_a_part_of_a_source_is_more_than_a_sliver(pinch: Pinch) -> None:
+    _, (window, *_) = windows_of(pinch, '10sp1')
+    left = HeatLeft(window)
+    hot = left.hots[0]
+    assert left.can_part(hot, TOP, LEAST_PART) and left.can_part(hot, BESIDE, LEAST_PART)
+    left.lows[hot] = left.highs[hot] - 1e-6
+    assert Descent(left, Random(1)).places_of(hot) == [BESIDE]
+
+
+def broken(job: object) -> ChainEnd:
+    raise ZeroDivisionError
+
+
+def test_a_job_whose_floats_break_finds_nothing(monkeypatch: pytest.MonkeyPatch) -> None:
+    monkeypatch.setattr(ChainJob, 'run', broken)
+    begin = Chain((Tick(0, 1, WHOLE, WHOLE, 1.0),))
+    assert end_of(ChainJob(Window((), frozenset()), 0, 0, 1, 5, begin, None)) == ChainEnd(begin, ())
+    monkeypatch.setattr(DropJob, 'run', broken)
+    case = completed(read_case(example('tc3.csv')))
+    assert end_of(DropJob(case, Structure({}, {}), Fraction(0), 1, 1.0, Aim())) == WholeEnd((), ())
+
+
+def test_the_job_of_a_worker_that_ends_is_done_again(pinch: Pinch) -> None:
+    here = [judged.network for judged in searched(pinch, 'tc3', 10, 5)]
+    found: list[Judged] = []
+    search = search_of(pinch, 'tc3', found, 5)
+    crew = JobCrew(2)
+    crew.members[0].process.kill()
+    try:
+        crew.run(JobRow(search), lambda: search.taken >= 10, time.monotonic() + 600)
+    finally:
+        crew.end()
+    assert len(crew.members) == 1 and search.taken == 10 and [judged.network for judged in found] == here

@@ -7,6 +7,7 @@ from fractions import Fraction
 
 from ..analysis.findings import headline
 from ..analysis.follow import follow
+from ..analysis.joined import network_count
 from ..errors import DeskError, Refused
 from ..formats.case import Case, completed, read_case
 from ..formats.network import Exchanger, Mix, Network, Split, read_network
@@ -28,15 +29,22 @@ class NotAccepted(DeskError):
 @dataclass(frozen=True)
 class AcceptedNetwork:
     """A network with the verdict of `pinch audit` that accepted it; `uneven` is how many of its mixes join branches of
-    two temperatures."""
+    two temperatures, and `joints` how many exchangers are none of their own in the plant, since they are what others go
+    on as across the kink of a stream."""
 
     network: Network
     verdict: Accepted
     uneven: int = field(default=0, kw_only=True)
+    joints: int = field(default=0, kw_only=True)
 
     @property
     def count(self) -> int:
         return len(self.network.exchangers)
+
+    @property
+    def in_plant(self) -> int:
+        """How many exchangers the plant has."""
+        return self.count - self.joints
 
     @property
     def cost(self) -> Fraction:
@@ -47,11 +55,11 @@ class AcceptedNetwork:
         return splits_of(self.network)
 
     @property
-    def rank(self) -> tuple[int, int, int, Fraction, int]:
-        """What is less is better: exchangers, splits, splits that are not mixed at one temperature, the cost, and then
-        the digits of its fractions."""
+    def rank(self) -> tuple[int, int, int, int, Fraction, int]:
+        """What is less is better: exchangers of the plant, and of the program, splits, splits that are not mixed at one
+        temperature, the cost, and then the digits of its fractions."""
         digits = sum(len(str(number)) for number in numbers_of(self.network))
-        return (self.count, self.splits, self.uneven, self.cost, digits)
+        return (self.in_plant, self.count, self.splits, self.uneven, self.cost, digits)
 
 
 @dataclass(frozen=True)
@@ -84,7 +92,12 @@ def uneven_mixes(case: Case, network: Network) -> int:
 
 def accepted_network(case: Case, network: Network, verdict: Accepted) -> AcceptedNetwork:
     """A network of a completed case that was accepted."""
-    return AcceptedNetwork(network, verdict, uneven=uneven_mixes(case, network))
+    return AcceptedNetwork(network, verdict, uneven=uneven_mixes(case, network), joints=joints_in(case, network))
+
+
+def joints_in(case: Case, network: Network) -> int:
+    """How many exchangers of a network are none of their own in the plant."""
+    return len(network.exchangers) - network_count(case, network)
 
 
 def case_of(case: CaseText) -> Case:
@@ -127,7 +140,7 @@ class Judge:
         """The same with its structure; `Refused` where it has none."""
         found = self.accepted(text)
         structure, duties = structure_of(self.case, found.network), duties_of(found.network)
-        return Judged(found.network, found.verdict, structure, duties, uneven=found.uneven)
+        return Judged(found.network, found.verdict, structure, duties, uneven=found.uneven, joints=found.joints)
 
     def of(self, costed: Costed | None) -> Judged | None:
         """What was found, where it is accepted at the cost that was worked out and as it is wished; None where it is
@@ -141,7 +154,8 @@ class Judge:
             return None
         if not isinstance(verdict, Accepted) or verdict.cost != costed.cost or not self.is_wished(network):
             return None
-        return Judged(network, verdict, costed.structure, costed.duties, uneven=uneven_mixes(self.whole, network))
+        return Judged(network, verdict, costed.structure, costed.duties, uneven=uneven_mixes(self.whole, network),
+                      joints=joints_in(self.whole, network))
 
     def structure_of(self, structure: Structure) -> Structure:
         """What was searched as a structure of the case that is audited."""

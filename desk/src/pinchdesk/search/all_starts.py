@@ -70,7 +70,7 @@ class AllStarts:
         return self.task.most_cost > self.task.floor
 
     def enough(self) -> bool:
-        return self.state.best is not None and self.state.best.count <= self.state.bound
+        return self.state.best is not None and self.state.best.in_plant <= self.state.bound
 
     def hear(self, state: SearchState) -> None:
         """Takes what one of the starts is at; two may be at work, one of them still when the search has ended."""

@@ -7,6 +7,7 @@ from contextlib import suppress
 from dataclasses import dataclass
 
 from ..formats.case import Case
+from ..formats.whole_streams import whole_names
 from .budget import Effort, TimeOver
 from .search_state import SearchState
 from .solver.linear import Program
@@ -29,15 +30,17 @@ class Bounding:
     def run(self) -> None:
         task, solver = self.task, Solver(Effort(self.task.seconds, self.task.begun))
         at_least_cost = task.most_cost == task.floor
-        settled = at_least_cost and has_one_use(task.case)
+        # A pair of streams that meets across kinks or cuts may be one exchanger, so that pairs are counted alone.
+        streams = whole_names(task.case)
+        settled = at_least_cost and has_one_use(task.case) and not streams
         with suppress(TimeOver):
-            if at_least_cost:
+            if at_least_cost and not streams:
                 program = window_bound_program(windows(task.case, task.uses))
                 self.ask(solver, program, lambda least, proved: SearchState(
                     None, least if settled else 0, of_uses=least, proved=proved if settled else 0,
                     proved_of_uses=proved))
             if not settled:
-                program, _ = transshipment(whole(task.case, None), task.most_cost)
+                program, _ = transshipment(whole(task.case, None), task.most_cost, streams)
                 self.ask(solver, program, lambda least, proved: SearchState(None, least, proved=proved))
         solver.apart.end()
 

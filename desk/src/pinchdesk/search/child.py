@@ -17,6 +17,7 @@ import threading
 import time
 from collections.abc import Iterator
 from contextlib import suppress
+from dataclasses import dataclass
 from pathlib import Path
 
 SOURCE = Path(__file__).resolve().parents[2]
@@ -32,6 +33,13 @@ class Silent(Exception):
 
 class Gone(Exception):
     """The child has ended."""
+
+
+@dataclass(frozen=True)
+class Failed:
+    """What was asked came to no end, and why."""
+
+    fault: BaseException
 
 
 class Child:
@@ -87,6 +95,15 @@ class Child:
             pass
         if self.folder:
             self.folder.cleanup()
+
+
+def portable(fault: Exception) -> Exception:
+    """An exception that goes over a pipe."""
+    try:
+        pickle.loads(pickle.dumps(fault))
+    except (pickle.PicklingError, TypeError, AttributeError):
+        return RuntimeError(f'{type(fault).__name__}: {fault}')
+    return fault
 
 
 def packed(message: object) -> bytes:

@@ -10,7 +10,7 @@ from importlib.metadata import version
 
 from ..analysis.findings import headline
 from ..analysis.follow import follow
-from ..analysis.joined import network_count
+from ..analysis.joined import joined, network_count
 from ..errors import INFEASIBLE, DeskError, Status, WordsError
 from ..formats.case import Basis, Case, completed, read_case
 from ..formats.network import Network, print_network, read_network
@@ -22,7 +22,7 @@ from ..program.run import CaseText, NetworkText, Pinch
 from ..program.verdicts import Accepted, ending
 from .accepted import AcceptedNetwork, accepted_network, case_of
 from .budget import FOREVER, GRACE, SearchWay, for_search, nobody
-from .search_state import INTERRUPTED, TIME_OVER, SearchState, first_state
+from .search_state import BROKEN_OFF, INTERRUPTED, TIME_OVER, SearchState, first_state
 from .staged.windows import windows
 from .tasks import NetworkTask, SearchProcess
 from .visited import Visited
@@ -101,12 +101,11 @@ class FewExchangers:
 
     @property
     def bounds(self) -> str:
-        """What no network has fewer exchangers than, and which networks, in words; each segment counts as a stream."""
-        parts = ' in the program, each segment a stream of its own,' if self.basis.segments else ''
-        told = [f'bound: at least {self.bound}{parts} in any network at this cost{how(self.bound, self.proved)}']
+        """What no network has fewer exchangers than, and which networks, in words."""
+        told = [f'bound: at least {self.bound} in any network at this cost{how(self.bound, self.proved)}']
         if self.of_uses > self.bound:
             proof = how(self.of_uses, self.proved_of_uses)
-            told.append(f'{self.of_uses} in any with these uses of the utilities{proof}')
+            told.append(f'{self.of_uses} in any with the uses of the utilities of the heat flow{proof}')
         if self.staged is not None:
             stages = '+'.join(map(str, self.staged[1]))
             told.append(f'{self.staged[0]} in {stages} stages with isothermal mixing{how(self.staged[0], 0)}')
@@ -127,24 +126,6 @@ def how(bound: int, proved: int) -> str:
 
 def unseen(found: AcceptedNetwork) -> None:
     del found
-
-
-class FewestInPlant:
-    """Of the networks that are found in a completed case the one with the fewest exchangers of the plant: the search
-    counts those of the program, which has the segments of a stream as streams."""
-
-    def __init__(self, case: Case, seen: Callable[[AcceptedNetwork], None]) -> None:
-        self.case, self.seen = case, seen
-        self.best: AcceptedNetwork | None = None
-        self.fewest = 0
-
-    def see(self, found: AcceptedNetwork) -> None:
-        self.seen(found)
-        if not self.case.basis.segments:
-            return
-        count = network_count(self.case, found.network)
-        if self.best is None or (count, found.rank) < (self.fewest, self.best.rank):
-            self.best, self.fewest = found, count
 
 
 def find_network(case: CaseText, most_cost: Fraction | int | None = None, above: Fraction | int | None = None,
@@ -168,8 +149,7 @@ def find_network(case: CaseText, most_cost: Fraction | int | None = None, above:
         begins = bettered(pinch, asked, start)
         lasts = float(seconds) if way.steps is None else FOREVER
         task = task_of(pinch, asked, flow, limit, None, begun, lasts, way, staying(wishes, begins, limit))
-        fewest = FewestInPlant(asked, seen)
-        best = best_of(task, fewest.see, begins, designing.result())
+        best = best_of(task, seen, begins, designing.result())
         task = replace(task, best=best, watched=seen is not unseen)
         state, ended = first_state(asked, task.best), TIME_OVER
         try:
@@ -181,12 +161,13 @@ def find_network(case: CaseText, most_cost: Fraction | int | None = None, above:
                 assert isinstance(message, SearchState)
                 state = message
                 if state.best:
-                    fewest.see(state.best)
+                    seen(state.best)
                 tell(str(state))
+            if process.is_gone:
+                ended = BROKEN_OFF
         except KeyboardInterrupt:
             ended = INTERRUPTED
-    found = found_in(task, state, state.ended or ended)
-    return in_place_of(found, asked, fewest.best, '') if fewest.best else found
+    return found_in(task, state, state.ended or ended)
 
 
 def flow_of(pinch: Pinch, case: CaseText) -> HeatFlow:
@@ -232,15 +213,17 @@ def found_in(task: NetworkTask, state: SearchState, ended: str) -> FewExchangers
                         Status.FAILED)
     if best is None:
         raise NoNetwork('no network was found in time, and `pinch design` has none', Status.FAILED)
-    staged = state.staged if state.staged is not None and state.staged[0] <= best.count else None
     names = whole_names(task.case)
+    # Of the staged model each segment is a stream, so that it says nothing of the plant.
+    staged = state.staged if state.staged is not None and state.staged[0] <= best.count and not names else None
     rule = sum(len({names.get(piece.name, piece.name) for piece in window.pieces}) - 1
                for window in windows(task.case, task.uses))
-    libraries = '' if task.way.steps is None else f'numpy {version("numpy")} and scipy {version("scipy")}'
-    return FewExchangers(best.network, best.verdict, min(state.bound, best.count), staged, ended,
-                         network_count(task.case, best.network), task.case.basis, rule,
-                         tight_of(task.case, best.network), libraries, min(state.of_uses, best.count), '', state.proved,
-                         state.proved_of_uses, range_costs(task.case))
+    is_whole = task.way.steps is not None and state.ended is not None
+    libraries = f'numpy {version("numpy")} and scipy {version("scipy")}' if is_whole else ''
+    return FewExchangers(best.network, best.verdict, min(state.bound, best.in_plant), staged, ended, best.in_plant,
+                         task.case.basis, rule, tight_of(task.case, best.network), libraries,
+                         min(state.of_uses, best.in_plant), '', state.proved, state.proved_of_uses,
+                         range_costs(task.case))
 
 
 def in_place_of(found: FewExchangers, case: Case, chosen: AcceptedNetwork, annual: str) -> FewExchangers:
@@ -251,8 +234,8 @@ def in_place_of(found: FewExchangers, case: Case, chosen: AcceptedNetwork, annua
 
 def tight_of(case: Case, network: Network) -> tuple[str, ...]:
     """The exchangers that work at the least approach from end to end."""
-    return tuple(passage.exchanger.name for passage in follow(case, network).passages
-                 if passage.hot_end == passage.cold_end == passage.approach)
+    return tuple(passage.exchanger.name for passage in joined(follow(case, network)).followed.passages
+                 if all(part.hot_end == part.cold_end == part.approach for part in passage.parts))
 
 
 def limit_of(floor: int, most_cost: Fraction | int | None, above: Fraction | int | None, shown: Shown,

@@ -23,7 +23,7 @@ def finished(judge: Judge, judged: Judged, cost: Fraction, end: float, tell: Tel
              bound: int = 0) -> Judged:
     """A network with what costs nothing taken out, until a time by `time.monotonic`. A search by steps is the same each
     time, so it does nothing here that a time ends; a network of no more exchangers than the bound has none to spare."""
-    if by_steps or judged.count > FEW or judged.count <= bound:
+    if by_steps or judged.count > FEW or judged.in_plant <= bound:
         best = without_splits(judge, judged, cost, end, tell)
     else:
         best = simplified(judge, judged, cost, min(end, time.monotonic() + LONG), tell)

@@ -4,9 +4,12 @@ from __future__ import annotations
 from dataclasses import dataclass
 
 from ..formats.case import Case, Side
+from ..formats.whole_streams import whole_streams
 from .accepted import AcceptedNetwork
 
 TIME_OVER, TO_THE_END, INTERRUPTED = 'time over', 'searched to the end', 'interrupted'
+# Where the memory is not enough, for instance.
+BROKEN_OFF = 'the process of the search was ended on the way'
 ALL_STEPS, NO_BETTER = 'all steps done', 'nothing better was found'
 
 
@@ -27,7 +30,7 @@ class SearchState:
     proved_of_uses: int = 0
 
     def __str__(self) -> str:
-        best = 'none yet' if self.best is None else str(self.best.count)
+        best = 'none yet' if self.best is None else str(self.best.in_plant)
         return f'{best} exchangers, at least {self.bound}'
 
     def joined(self, other: SearchState) -> SearchState:
@@ -45,4 +48,4 @@ def first_state(case: Case, best: AcceptedNetwork | None) -> SearchState:
 
 def each_stream_has_one(case: Case) -> int:
     """What no network has fewer exchangers than, since each stream has one, and no two of a side have it together."""
-    return max(sum(stream.side is side for stream in case.streams) for side in Side)
+    return max(sum(stream.side is side for stream in whole_streams(case)) for side in Side)

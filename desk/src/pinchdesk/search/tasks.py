@@ -5,7 +5,6 @@ from __future__ import annotations
 from collections.abc import Iterator, Mapping
 from dataclasses import dataclass, replace
 from fractions import Fraction
-from pickle import PicklingError, dumps, loads
 
 from ..errors import ProgramError
 from ..formats.case import Case
@@ -13,7 +12,7 @@ from ..formats.network import Network
 from ..program.run import Pinch
 from .accepted import AcceptedNetwork, CutJudge, Judge, Judged
 from .budget import SearchWay
-from .child import Child, Gone, Parent, Silent
+from .child import Child, Failed, Gone, Parent, Silent, portable
 from .search_state import SearchState
 from .staged.windows import cuts_between, windows
 from .visited import Tell, program_of
@@ -102,18 +101,13 @@ class TradeoffTask:
 Task = NetworkTask | TradeoffTask
 
 
-@dataclass(frozen=True)
-class Failed:
-    """A task that came to no end, and why."""
-
-    fault: BaseException
-
-
 class SearchProcess:
-    """A process for one task. It loads the solver while the task is still made."""
+    """A process for one task. It loads the solver while the task is still made. `is_gone` where it ended by itself
+    before its task did."""
 
     def __init__(self) -> None:
         self.child = Child(__name__, True)
+        self.is_gone = False
 
     def told(self, task: Task, until: float) -> Iterator[object]:
         """What a task tells, until it has come to its end, or until a time by `time.monotonic`."""
@@ -127,9 +121,11 @@ class SearchProcess:
             self.child.ask(task, until)
             while (message := self.message(until)) is not None:
                 yield message
-        except (Silent, Gone):
+        except Silent:
             # What was told so far stands.
             return
+        except Gone:
+            self.is_gone = True
 
     def message(self, until: float) -> object:
         """The next message; what failed there fails here."""
@@ -160,12 +156,3 @@ def serve() -> None:
             return
     except Exception as fault:  # Whatever it is, the parent raises it.
         parent.tell(Failed(portable(fault)))
-
-
-def portable(fault: Exception) -> Exception:
-    """An exception that goes over a pipe."""
-    try:
-        loads(dumps(fault))
-    except (PicklingError, TypeError, AttributeError):
-        return RuntimeError(f'{type(fault).__name__}: {fault}')
-    return fault

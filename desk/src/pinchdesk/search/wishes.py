@@ -2,12 +2,13 @@
 exchangers of a given network that stay. What is asked of a network is asked of what is written in the end."""
 from __future__ import annotations
 
-from collections.abc import Mapping, Sequence
+from collections.abc import Iterator, Mapping, Sequence
 from dataclasses import dataclass, replace
 
 from ..analysis.follow import Passage, follow
 from ..formats.case import Case, Forbid, Side, Stream, actual, shifted
 from ..formats.network import Exchanger, Network, Split
+from ..formats.segments import SegmentedStream
 from .reduce.structure import Course, Structure
 from .staged.windows import Window, WindowPiece
 
@@ -98,7 +99,17 @@ def cut_case(case: Case, parts: Sequence[Window]) -> CutCase:
                 pieces[piece.name] = (*before, name) if piece.side is Side.HOT else (name, *before)
             windows[-1].append((name, piece.side))
     forbids = [*forbidden_pieces(case, pieces), *apart(windows)]
-    return CutCase(replace(case, streams=tuple(streams), forbids=tuple(forbids)), pieces)
+    basis = replace(case.basis, segments=tuple(cut_segments(case, windows)))
+    return CutCase(replace(case, streams=tuple(streams), forbids=tuple(forbids), basis=basis), pieces)
+
+
+def cut_segments(case: Case, windows: Sequence[Sequence[tuple[str, Side]]]) -> Iterator[SegmentedStream]:
+    """The streams in segments as far as they are in one window."""
+    for stream in case.basis.segments:
+        for number, window in enumerate(windows):
+            names = {name for name, _ in window}
+            there = [name for name in (f'{segment}~{number}' for segment in stream.segments) if name in names]
+            yield SegmentedStream(f'{stream.name}~{number}', tuple(there))
 
 
 def stream_of(case: Case, piece: WindowPiece, name: str) -> Stream:

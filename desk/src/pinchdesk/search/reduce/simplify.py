@@ -105,6 +105,7 @@ def without_splits(judge: Judge, begun: Judged, cost: Fraction, end: float, tell
     return best
 
 
-def rank(case: Case, judged: Judged) -> tuple[int, int, int, Fraction]:
-    """The smaller the simpler: exchangers, splits, utilities that are not at the ends of their streams, cost."""
-    return judged.count, judged.splits, misplaced(case, judged.structure), judged.cost
+def rank(case: Case, judged: Judged) -> tuple[int, int, int, int, Fraction]:
+    """The smaller the simpler: exchangers of the plant, and of the program, splits, utilities that are not at the ends
+    of their streams, cost."""
+    return judged.in_plant, judged.count, judged.splits, misplaced(case, judged.structure), judged.cost

@@ -15,7 +15,7 @@ from ...formats.case import Case, Side, shifted
 from ...formats.network import Network
 from ...program.run import Pinch
 from ...program.verdicts import Accepted
-from ..accepted import AcceptedNetwork
+from ..accepted import AcceptedNetwork, joints_in
 from ..budget import Effort, TimeOver
 from ..reduce.simplify import simpler
 from ..search_state import TIME_OVER, TO_THE_END, SearchState
@@ -84,7 +84,7 @@ class Search:
             self.at_higher_cost(every, answer, uses)
 
     def enough(self) -> bool:
-        return self.best is not None and self.best.count <= self.bound
+        return self.best is not None and self.best.in_plant <= self.bound
 
     def offer(self, network: Network) -> None:
         """Takes a network where it is accepted, and is better than the best one. One whose fractions have too many
@@ -94,7 +94,7 @@ class Search:
         except Refused:
             return
         if isinstance(verdict, Accepted):
-            self.take_accepted(AcceptedNetwork(network, verdict))
+            self.take_accepted(AcceptedNetwork(network, verdict, joints=joints_in(self.case, network)))
 
     def take_accepted(self, found: AcceptedNetwork) -> None:
         """Takes an accepted network where it costs no more than it may, and is better than the best one."""

@@ -3,6 +3,7 @@
 Heat only goes down, whatever shape a network has, so the number of these pairs is a bound for every network."""
 from __future__ import annotations
 
+from collections.abc import Mapping
 from dataclasses import dataclass, field
 from fractions import Fraction
 
@@ -46,7 +47,8 @@ def heat_in(piece: WindowPiece, band: Band) -> int:
 @dataclass
 class Transshipment:
     """The model as it is built: `used` is whether a pair exchanges heat, `duties` what it exchanges, by the band of
-    the cold side; the duties of a source are kept by its name, in a band and in all."""
+    the cold side; the duties of a source are kept by its name, in a band and in all. The pairs of the segments of a
+    stream are one pair, by the names of the streams."""
 
     window: Window
     model: StagedModel
@@ -55,11 +57,18 @@ class Transshipment:
     duties: dict[tuple[Pair, Band], int] = field(default_factory=dict)
     by_band: dict[tuple[str, Band], list[tuple[int, Fraction]]] = field(default_factory=dict)
     by_name: dict[str, list[tuple[int, Fraction]]] = field(default_factory=dict)
+    streams: Mapping[str, str] = field(default_factory=dict)
+
+    def stream(self, name: str) -> str:
+        """The stream of the plant that a piece is of."""
+        return self.streams.get(name, name)
 
     def add_pair(self, hot: WindowPiece, cold: WindowPiece) -> None:
         pair = (hot.name, cold.name)
         limit = Fraction(min(capacity(hot, cold), self.window.total)) / self.model.unit
-        self.used[pair] = self.model.variable(ZERO, ONE, True)
+        met = (self.stream(hot.name), self.stream(cold.name))
+        if met not in self.used:
+            self.used[met] = self.model.variable(ZERO, ONE, True)
         terms: list[tuple[int, Fraction]] = []
         for band in self.bands:
             if is_in(cold, band) and (band[0] <= hot.high):
@@ -69,7 +78,7 @@ class Transshipment:
                 for name in pair:
                     self.by_band.setdefault((name, band), []).append((at, ONE))
                     self.by_name.setdefault(name, []).append((at, ONE))
-        self.model.row([*terms, (self.used[pair], -limit)], None, ZERO)
+        self.model.row([*terms, (self.used[met], -limit)], None, ZERO)
 
     def taken(self, piece: WindowPiece, band: Band | None = None) -> list[tuple[int, Fraction]]:
         """The duties of a piece, in a band or in all."""
@@ -104,10 +113,11 @@ class Transshipment:
         self.model.row([term for term in terms if term[1]], None, most / self.model.unit)
 
 
-def transshipment(window: Window, most_cost: Fraction | None = None) -> tuple[Program, dict[Pair, int]]:
+def transshipment(window: Window, most_cost: Fraction | None = None,
+                  streams: Mapping[str, str] = {}) -> tuple[Program, dict[Pair, int]]:
     """The program of a window and the variables of its pairs; with a cost that is not to be passed where the heat of
-    the utilities is open."""
-    pair_model = pair_model_of(window)
+    the utilities is open. What has a name in `streams` is a segment of that stream."""
+    pair_model = pair_model_of(window, streams)
     if most_cost is not None:
         pair_model.add_cost(most_cost)
     model, aim = pair_model.model, tuple((at, ONE) for at in pair_model.used.values())
@@ -115,9 +125,10 @@ def transshipment(window: Window, most_cost: Fraction | None = None) -> tuple[Pr
             pair_model.used)
 
 
-def pair_model_of(window: Window) -> Transshipment:
+def pair_model_of(window: Window, streams: Mapping[str, str] = {}) -> Transshipment:
     """The model of a window, without a cost."""
-    pair_model = Transshipment(window, StagedModel(Asked((window,), (0,)), unit_of((window,))), bands_of(window))
+    pair_model = Transshipment(window, StagedModel(Asked((window,), (0,)), unit_of((window,))), bands_of(window),
+                               streams=streams)
     for hot in window.hots:
         for cold in window.colds:
             if may_meet(hot, cold, window):
@@ -130,5 +141,6 @@ def pair_model_of(window: Window) -> Transshipment:
         else:
             pair_model.add_cold(piece)
         if piece.least:
-            pair_model.model.row([(at, ONE) for pair, at in pair_model.used.items() if piece.name in pair], ONE, None)
+            pair_model.model.row([(at, ONE) for pair, at in pair_model.used.items()
+                                  if pair_model.stream(piece.name) in pair], ONE, None)
     return pair_model

@@ -174,12 +174,16 @@ class Descent:
                 if not self.left.may_meet(hot, cold):
                     continue
                 weight = 0.5 + self.random.random()
-                for hot_place in self.left.places_of(hot):
-                    for cold_place in self.left.places_of(cold):
+                for hot_place in self.places_of(hot):
+                    for cold_place in self.places_of(cold):
                         fit = self.part(hot, cold, hot_place, cold_place, largest / weight)
                         if fit and fit.tick.duty * weight > largest:
                             best, largest = fit, fit.tick.duty * weight
         return best
+
+    def places_of(self, slot: int) -> list[int]:
+        """The places at which a part of a source can be taken."""
+        return [place for place in self.left.places_of(slot) if self.left.can_part(slot, place, LEAST_PART)]
 
     def part(self, hot: int, cold: int, hot_place: int, cold_place: int, least: float) -> Fit | None:
         """The largest duty at these places that fits, where it is above the least."""

@@ -41,7 +41,7 @@ class Growing:
         """With exchangers more, and with a split less where there are too many; and then without all that are left
         without a duty."""
         names = list(now.structure.pairs)
-        leaving = random.choices(range(len(names)), [1 / (HALF + duty) for duty in now.duties])[0]
+        leaving = random.choices(range(len(names)), [1 / (HALF + duty) for duty in now.whole_duties])[0]
         picked = list(self.picked(now.structure.pairs[names[leaving]], random.randint(*MORE), random))
         wide = with_more(self.case, self.less_split(now.structure, random), picked, random,
                          self.most_splits is None or splits(now.structure) < self.most_splits)
@@ -49,7 +49,7 @@ class Growing:
         for _ in range(AGAIN):
             if found is None or found.count < now.count:
                 break
-            found = thinned_once(self.case, found.structure, self.most_cost, weights_of(found.duties, random))
+            found = thinned_once(self.case, found.structure, self.most_cost, weights_of(found.whole_duties, random))
         return found
 
     def less_split(self, structure: Structure, random: Random) -> Structure:
@@ -67,8 +67,9 @@ class Growing:
 
 def weights_with(now: Thinned, leaving: int, more: int, random: Random) -> Floats:
     """The weights of a network and of what is put in: small for large duties, large for what is to go."""
-    weights = weights_of(now.duties, random)
-    weights[leaving] *= HEAVY
+    weights = weights_of(now.whole_duties, random)
+    chains = now.chains or range(len(weights))
+    weights[[at for at, chain in enumerate(chains) if chain == chains[leaving]]] *= HEAVY
     middle = float(numpy.median(weights))
     fresh = numpy.array([middle * random.random() for _ in range(more)])
     return numpy.concatenate([weights, fresh])

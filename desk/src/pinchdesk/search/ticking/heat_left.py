@@ -204,6 +204,10 @@ class HeatLeft:
             return (BESIDE,)
         return (TOP, BOTTOM, BESIDE) if self.may_split else (TOP, BOTTOM)
 
+    def can_part(self, slot: int, place: int, part: float) -> bool:
+        """Whether a source is left with more than no range where so much of it is taken, or is left, at a place."""
+        return place == BESIDE or (self.highs[slot] - self.lows[slot]) * part > NEAR
+
     def corner_fits(self, hot: int, cold: int) -> list[Fit]:
         """The exchangers that finish the smaller of two sources in a corner of the larger one, and fit."""
         if self.highs[hot] < self.lows[cold] - NEAR or self.levels[hot] or self.levels[cold] or not self.may_split:

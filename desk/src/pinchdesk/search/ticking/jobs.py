@@ -133,7 +133,9 @@ class DropJob:
     aim: Aim
 
     def run(self) -> WholeEnd:
-        most = min(self.aim.exchangers, len(self.structure.pairs)) - 1
+        fewest = len(self.structure.pairs)
+        # What goes on across kinks is one exchanger in the plant, and so may have more parts than the best has.
+        most = fewest - 1 if self.aim.kinks.kinks else min(self.aim.exchangers, fewest) - 1
         found = dropped(self.case, self.structure, self.most_cost, most, self.nodes, self.seconds)
         return whole_end(self.case, [found] if found else [], self.most_cost, self.aim)
 
@@ -167,6 +169,14 @@ def exact_kinds(case: Case, thin: Thinned, most_cost: Fraction) -> Iterator[Cost
 def cheapest_at(case: Case, structure: Structure, most_cost: Fraction) -> Costed | None:
     costed = cheapest(case, structure)
     return costed if costed is not None and costed.cost <= most_cost else None
+
+
+def end_of(job: Job) -> ChainEnd | WholeEnd:
+    """What a job comes to: nothing where its floats break."""
+    try:
+        return job.run()
+    except ArithmeticError:
+        return ChainEnd(job.begin, ()) if isinstance(job, ChainJob) else WholeEnd((), ())
 
 
 Job = ChainJob | CombineJob | ThinJob | StartJob | GrowJob | DropJob

@@ -10,6 +10,7 @@ from fractions import Fraction
 from math import inf
 
 from ..accepted import Judge, Judged
+from ..reduce.kinks import kinks_of
 from ..reduce.structure import Structure
 from ..reduce.widen import pairs_of
 from ..staged.windows import Window, windows
@@ -118,7 +119,7 @@ class PlantSearch:
                  begin: Structure | None = None, seed: int = 1, pace: Pace = Pace()) -> None:
         self.judge, self.most_cost, self.tell = judge, most_cost, tell
         self.begin, self.seed, self.pace = begin, seed, pace
-        self.aim = Aim(most_splits=judge.wishes.most_splits)
+        self.aim = Aim(most_splits=judge.wishes.most_splits, kinks=kinks_of(judge.case))
         if begin is not None:
             self.aim = replace(self.aim, least=self.aim.rank(begin))
         self.pays = most_cost > sum(utility.price * uses[utility.name] for utility in judge.case.utilities)

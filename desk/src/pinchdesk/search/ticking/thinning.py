@@ -13,6 +13,7 @@ from random import Random
 import numpy
 
 from ...formats.case import Case
+from ..reduce.kinks import NO_KINKS, Kinks, kinks_of
 from ..reduce.moves import with_ends
 from ..reduce.structure import Course, Parting, Structure, Through, is_flat, reduced, splits, throughs
 from .window_courses import WindowNetwork
@@ -37,10 +38,11 @@ Rank = tuple[int, int, int]
 @dataclass(frozen=True)
 class Aim:
     """What is searched: fewer exchangers than the best so far, or as many and fewer splits. Where there may be at most
-    so many splits, no more of them come first."""
+    so many splits, no more of them come first. Exchangers that go on across kinks are counted as one."""
 
     least: Rank = (0, MANY, 0)
     most_splits: int | None = None
+    kinks: Kinks = NO_KINKS
 
     @property
     def exchangers(self) -> int:
@@ -50,21 +52,34 @@ class Aim:
         """What is less is better."""
         number = splits(structure)
         excess = 0 if self.most_splits is None else max(0, number - self.most_splits)
-        return (excess, len(structure.pairs), number)
+        return (excess, self.kinks.count(structure), number)
 
 
 @dataclass(frozen=True)
 class Thinned:
-    """A structure whose every exchanger has a duty, in floats."""
+    """A structure whose every exchanger has a duty, in floats. Where some go on across kinks, `chains` has the number
+    of the exchanger of the plant that each one is a part of."""
 
     structure: Structure
     duties: tuple[float, ...]
     # The networks of the windows of which it was made.
     combination: Combination = ()
+    chains: tuple[int, ...] = ()
 
     @property
     def count(self) -> int:
-        return len(self.duties)
+        """How many exchangers the plant has."""
+        return len(set(self.chains)) if self.chains else len(self.duties)
+
+    @property
+    def whole_duties(self) -> Sequence[float]:
+        """Of each exchanger the duty of the whole that it is a part of."""
+        if not self.chains:
+            return self.duties
+        wholes = dict.fromkeys(self.chains, 0.0)
+        for chain, duty in zip(self.chains, self.duties):
+            wholes[chain] += duty
+        return [wholes[chain] for chain in self.chains]
 
 
 def thinned_once(case: Case, structure: Structure, most_cost: Fraction, weights: Floats | None) -> Thinned | None:
@@ -75,7 +90,8 @@ def thinned_once(case: Case, structure: Structure, most_cost: Fraction, weights:
         return None
     gone = frozenset(name for name, duty in zip(model.names, point) if duty <= NONE)
     kept = tuple(float(duty) for name, duty in zip(model.names, point) if name not in gone)
-    return Thinned(reduced(structure, gone) if gone else structure, kept)
+    left = reduced(structure, gone) if gone else structure
+    return Thinned(left, kept, chains=kinks_of(case).chains(left))
 
 
 def weights_of(duties: Sequence[float], random: Random) -> Floats:
@@ -90,7 +106,7 @@ def thinned(case: Case, structure: Structure, most_cost: Fraction, random: Rando
     best = thinned_once(case, structure, most_cost, weights)
     idle = 0
     while best is not None and idle < rounds:
-        less = thinned_once(case, best.structure, most_cost, weights_of(best.duties, random))
+        less = thinned_once(case, best.structure, most_cost, weights_of(best.whole_duties, random))
         if less is None:
             break
         idle = 0 if less.count < best.count else idle + 1
