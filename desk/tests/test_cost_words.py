@@ -53,7 +53,7 @@ def test_shells_that_have_a_price_each_are_shown() -> None:
     """39.7 m² in shells of 10 m²."""
     case = SMALL.replace('counter-current,,,,exchanger', 'counter-current,,10,m2,shell').encode()
     facts = {fact.name: fact.value for fact in cost(files_of(case=case)).facts[0]}
-    assert (facts['units'], facts['shells']) == (3, 4)
+    assert (facts['units'], facts['shells']) == (Decimal(3), Decimal(4))
     table = supertarget(files_of(case=case), SweepOptions('8', '10', '2')).sheets[1]
     assert [row[table.headings.index('shells')] for row in table.rows] == [5, 4]
 
