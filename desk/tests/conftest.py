@@ -133,6 +133,8 @@ def example(name: str) -> bytes:
 class SearchHere:
     """Stands in for the process of a search: the task is done in this one, whatever time it takes."""
 
+    is_gone = False
+
     def told(self, task: Task, until: float) -> Iterator[object]:
         del until
         messages: list[object] = []

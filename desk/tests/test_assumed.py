@@ -88,7 +88,7 @@ def test_coolers_without_any_price_cost_nothing_and_that_is_told() -> None:
 # Duties.
 
 @pytest.mark.parametrize('rows', ['H1;60;150;-180\nC1;20;125;262.5', 'C1;20;125;-262.5', 'H1;150;60;-180\nH2;90;60;240',
-                                  'H1;150;60;180\nC1;20;125;-262.5', 'H1;150;60;180\nH2;90;60;-240\nC1;20;125;262.5'])
+                                  'H1;150;60;180\nH2;90;60;-240\nC1;20;125;262.5'])
 @pytest.mark.parametrize('heading', ['ΔH (kW)', 'Duty (kW)', 'Q [kW]'])
 def test_a_duty_whose_sign_contradicts_its_temperatures_is_refused(heading: str, rows: str) -> None:
     said = refusal(f'Stream;Supply (°C);Target (°C);{heading}\n{rows}\n')

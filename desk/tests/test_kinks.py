@@ -13,7 +13,7 @@ from pinchdesk.formats.whole_streams import whole_names
 from pinchdesk.search.accepted import Judge
 from pinchdesk.search.budget import SearchWay
 from pinchdesk.search.find import tight_of
-from pinchdesk.search.reduce.kinks import NO_KINKS, kinks_of
+from pinchdesk.search.reduce.going_on import NO_KINKS, kinks_of
 from pinchdesk.search.reduce.network_structure import structure_of
 from pinchdesk.search.search_state import each_stream_has_one
 from pinchdesk.search.solver.linear import solve

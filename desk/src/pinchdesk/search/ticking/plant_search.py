@@ -10,7 +10,7 @@ from fractions import Fraction
 from math import inf
 
 from ..accepted import Judge, Judged
-from ..reduce.kinks import kinks_of
+from ..reduce.going_on import kinks_of
 from ..reduce.structure import Structure
 from ..reduce.widen import pairs_of
 from ..staged.windows import Window, windows

@@ -13,7 +13,7 @@ from random import Random
 import numpy
 
 from ...formats.case import Case
-from ..reduce.kinks import NO_KINKS, Kinks, kinks_of
+from ..reduce.going_on import NO_KINKS, Kinks, kinks_of
 from ..reduce.moves import with_ends
 from ..reduce.structure import Course, Parting, Structure, Through, is_flat, reduced, splits, throughs
 from .window_courses import WindowNetwork
