@@ -18,6 +18,7 @@ from tabled import made, refusal
 from pinchdesk import Pinch, Refused, WordsError
 from pinchdesk import read as pinchdesk_read
 from pinchdesk.analysis.change_table import read_changes
+from pinchdesk.analysis.least_units import Units, least_units
 from pinchdesk.analysis.sweep_request import asked_range
 from pinchdesk.formats.case import completed, print_case, read_case, said_in_si
 from pinchdesk.formats.case_units import CaseUnits
@@ -55,6 +56,32 @@ def test_the_targets_of_a_table_in_its_own_units_are_those_of_its_numbers(name: 
     rounded = [note for note in converted.notes if 'is rounded, by' in note]
     assert bool(rounded) >= any('target is' in note for note in converted.notes)
     assert print_case(read_case(print_case(converted.case))) == print_case(converted.case)
+
+
+SEGMENTS = """Stream;Supply (°F);Target (°F);Duty (MMBtu/h)
+H1;330;230;2
+H1;230;130;4
+C1;70;170;1.5
+C1;170;330;4.8
+"""
+CURVES = 'Kind;Stream;T (°F);H (MMBtu/h)\nhot;H1;330;6\n;;230;4\n;;130;0\ncold;C1;70;0\n;;170;1.5\n;;330;6.3\n'
+
+
+@pytest.mark.parametrize('table', [SEGMENTS, CURVES])
+def test_streams_of_segments_have_their_exact_targets_in_their_own_units(table: str, pinch: Pinch) -> None:
+    """By hand: the cold stream lacks 0.6 above 310 °F, and 1.0 more down to 210 °F; the whole lacks 0.3."""
+    converted = whole(table, Wanted('20 °F', own_units=True), pinch)
+    case = converted.case
+    targets, units = pinch.targets(print_case(case)), case.basis.units
+    assert units is not None and units.temperature == '°F' and units.heat == 'MMBtu/h'
+    assert [heat / units.parts for heat in (targets.hot, targets.cold)] == [Fraction(8, 5), Fraction(13, 10)]
+    assert not any('rounded' in note for note in converted.notes)
+    assert [(stream.supply, stream.target) for stream in case.streams] == [(3300, 2300), (2300, 1300), (700, 1700),
+                                                                           (1700, 3300)]
+    again = read_case(print_case(case))
+    assert again == case and [len(stream.segments) for stream in again.basis.segments] == [2, 2]
+    counted = least_units(print_case(case), pinch)
+    assert isinstance(counted, Units) and counted.whole.least == 3
 
 
 @tried(8, 25)

@@ -13,10 +13,10 @@ from hypothesis import strategies as some
 from openpyxl.styles import Alignment
 from tabled import TEN, made, refusal, saved, streams, workbook
 
-from pinchdesk import Stream
+from pinchdesk import Pinch, Stream
 from pinchdesk.formats.case import print_case, read_case
 from pinchdesk.formats.segments import SegmentedStream
-from pinchdesk.tables.convert import Wanted
+from pinchdesk.tables.convert import Wanted, checked
 from pinchdesk.tables.heating_curve import CurvePoint, between, simplified
 
 HEAD = 'Stream;Supply (°C);Target (°C);CP (kW/K)\n'
@@ -214,6 +214,18 @@ def test_a_tolerance_is_reported_with_how_far_it_takes_the_curve() -> None:
     assert len(exact.case.streams) == 12 and len(wide.case.streams) == 7
     told = next(note for note in wide.notes if 'heating curve' in note and 'points' in note)
     assert '12 points' in told and 'K hotter than they are, on the safe side' in told
+
+
+def test_a_tolerance_is_in_what_is_told_of_the_targets(pinch: Pinch) -> None:
+    """By hand: above 50 °C the curve has 96 kW, and its one piece, 2 K hotter at 64 kW, has 100 kW."""
+    table = 'Kind;Stream;T (°C);H (kW)\ncold;Crude;20;0\n;;50;64\n;;100;160\nhot;Oil;60;100\n;;59;0\n'
+    said = 'by what is rounded and the tolerance of 2 K the hot target is 4 kW too high, and the cold target is 4 kW ' \
+           'too high'
+    for own_units in (False, True):
+        exact, wide = (checked(made(table, Wanted('10', own_units=own_units, tolerance=Fraction(tolerance))), pinch)
+                       for tolerance in (0, 2))
+        assert wide.notes[-1] == said and f'# {said}' in wide.comments
+        assert not any('tolerance' in note for note in exact.notes)
 
 
 def test_what_is_said_of_a_piece_names_a_column_that_the_table_has() -> None:

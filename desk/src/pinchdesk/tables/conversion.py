@@ -33,10 +33,10 @@ class Wanted:
 @dataclass(frozen=True)
 class Converted:
     """A case that was made of a table: `origins` has the row of the table behind each row of the case, `notes` is
-    told, `exact` are its streams before anything was rounded; `blocks` and `body` are the table as it was
-    understood; `difference` is the least difference and where it comes from. `ranges` are the utilities with a range
-    that the case does not have yet, since their sizes are to be found, with the row of each, and `range_forbids` the
-    forbidden matches with them."""
+    told, `exact` are its streams before anything was rounded, also by the `tolerance` of heating curves in K;
+    `blocks` and `body` are the table as it was understood; `difference` is the least difference and where it comes
+    from. `ranges` are the utilities with a range that the case does not have yet, since their sizes are to be found,
+    with the row of each, and `range_forbids` the forbidden matches with them."""
 
     case: Case
     table: Table
@@ -49,3 +49,4 @@ class Converted:
     difference: str = ''
     ranges: tuple[tuple[int, UnsizedRange], ...] = ()
     range_forbids: tuple[Forbid, ...] = ()
+    tolerance: Fraction = Fraction(0)

@@ -88,6 +88,7 @@ def converted(table: Table, wanted: Wanted) -> Converted:
     doubts_of(blocks, body.lines, told, wanted.decimal is not None)
     told.settle()
     mark = decimal_mark(table, numbers_of(body.lines), wanted.decimal)
+    whole_curves = with_curves(blocks, body, mark, Fraction(0), Told(table))[1] if wanted.tolerance else None
     blocks, body = with_curves(blocks, body, mark, wanted.tolerance, told)
     layouts = {row.number: [block.layout for block in blocks.blocks if row.number in block.numbers]
                for row in table.rows}
@@ -105,7 +106,9 @@ def converted(table: Table, wanted: Wanted) -> Converted:
             told.notes.append(f'the name `{old}` becomes {new}')
     told.notes += other_sheets.told(table)
     entries = Entries(reader, told, names, wanted.scale, wanted.own_units, wanted.levels)
-    return Maker(told, reader, entries, blocks, wanted, segmented, costs).made(body, names)
+    maker = Maker(told, reader, entries, blocks, wanted, segmented, costs)
+    maker.whole_curves = tuple(line for line in whole_curves.lines if line.layout.curve) if whole_curves else ()
+    return maker.made(body, names)
 
 
 def with_layouts(body: Body, blocks: Blocks) -> Body:
@@ -150,7 +153,7 @@ def checked(made: Converted, pinch: Pinch) -> Converted:
         raise made.table.refusal(row, None, cause) from fault
     units = made.case.basis.units
     hot, cold = (units.in_watts(heat) if units else Fraction(heat) for heat in (targets.hot, targets.cold))
-    said = how_far_off(made.exact, hot, cold, made.case.basis.scale)
+    said = how_far_off(made.exact, hot, cold, made.case.basis.scale, made.tolerance)
     if not said:
         return made
     said += ', without its utilities with a range' if made.ranges else ''

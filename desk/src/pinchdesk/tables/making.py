@@ -20,8 +20,9 @@ from .own_units import ExactNumbers, in_own_units, whole
 from .prices import PriceFault, PriceUnit, Priced, priced
 from .range_segments import SegmentsOfRanges
 from .ranged import RangeRow, without_ranges
+from .roundings import RoundingSpan, span_of
 from .rows import Body, Line
-from .segmented import SegmentRows, fit_segments, temperature
+from .segmented import SegmentRows, fit_segments, size, temperature
 from .sources import Entries
 from .units import Kind
 from .utility_prices import PriceReader
@@ -45,6 +46,8 @@ class Maker:
         self.coefficients: list[CostRow] = []
         self.segments_of_ranges = SegmentsOfRanges(told, entries, self.prices, segmented)
         self.costs = costs
+        # The pieces of heating curves without their tolerance, where there is one.
+        self.whole_curves: Sequence[Line] = ()
 
     def made(self, body: Body, names: dict[str, str]) -> Converted:
         self.entries.spread, self.entries.trusted = spread_of(body.lines, self.reader)
@@ -66,7 +69,9 @@ class Maker:
                         for _, stream, own in (*self.streams, *self.segments_of_ranges.streams))
         self.told.settle()
         case = Case(share, streams, tuple(utilities), tuple(forbid for _, forbid in self.forbids), basis)
-        exact = tuple(self.entries.exact(line, side, exact_share) for line, side in self.stream_lines)
+        exact = tuple(self.entries.exact(line, side, exact_share) for line, side in self.stream_lines
+                      if not (self.whole_curves and line.layout.curve))
+        exact += tuple(curve_span(line, exact_share, self.reader) for line in self.whole_curves)
         numbers = self.numbers(exact_share)
         if self.wanted.own_units:
             case = in_own_units(case, numbers, self.reader, body.lines, self.told, self.entries.ends)
@@ -74,7 +79,8 @@ class Maker:
         return Converted(split.case, self.told.table, self.origins(split.case, share_row), tuple(self.told.notes),
                          body.comments, exact, self.blocks, body,
                          f'{Shown(case.basis).least_difference(case.contribution)}, {self.origin(share_row)}',
-                         split.ranges, split.forbids)
+                         split.ranges, split.forbids,
+                         self.wanted.tolerance if self.whole_curves else Fraction(0))
 
     def origins(self, case: Case, share_row: int) -> tuple[int, ...]:
         """The row of the table behind each row of a case."""
@@ -296,6 +302,16 @@ class Maker:
             row = self.priced[0][0]
             raise self.told.table.refusal(row, None, 'there are prices, and no heater with one: add the heater')
         self.told.once('no heater is given: HOT is added, at the price 1')
+
+
+def curve_span(line: Line, share: Fraction, reader: CellReader) -> RoundingSpan:
+    """A piece of a heating curve as the table has it; `share` is the contribution of the case."""
+    supply, target = (temperature(line, heading, reader) for heading in (Heading.SUPPLY, Heading.TARGET))
+    duty, own = (size(line, heading, kind, reader) for heading, kind in (
+        (Heading.LOAD, Kind.HEAT), (Heading.CONTRIBUTION, Kind.DIFFERENCE)))
+    # What is wrong with them was told of the pieces that the case has.
+    assert supply is not None and target is not None and duty is not None
+    return span_of(Side(line.kind), (supply, target), duty, share if own is None else own)
 
 
 def spread_of(lines: Sequence[Line], reader: CellReader) -> tuple[tuple[Fraction, Fraction] | None, bool]:

@@ -48,9 +48,10 @@ def exact_targets(spans: Sequence[RoundingSpan]) -> tuple[Fraction, Fraction]:
     return hot, hot + surplus
 
 
-def told(spans: Sequence[RoundingSpan], hot: int | Fraction, cold: int | Fraction, scale: Fraction) -> str:
+def told(spans: Sequence[RoundingSpan], hot: int | Fraction, cold: int | Fraction, scale: Fraction,
+         tolerance: Fraction = Fraction(0)) -> str:
     """How far the targets of a rounded case are from those of the table; empty where they are the same. The heats of
-    the case are the table's so many times."""
+    the case are the table's so many times, and its pieces of heating curves within a tolerance in K."""
     exact = exact_targets(spans)
     parts = []
     for name, rounded, true in (('hot', hot, exact[0]), ('cold', cold, exact[1])):
@@ -58,4 +59,5 @@ def told(spans: Sequence[RoundingSpan], hot: int | Fraction, cold: int | Fractio
         shown = decimal(abs(off), 6 if abs(off) < Fraction(1, 100) else 3)
         parts.append(f'the {name} target is {shown} kW too {"high" if off > 0 else "low"}' if off else
                      f'the {name} target stays')
-    return '' if (hot / scale, cold / scale) == exact else ROUNDED + ', and '.join(parts)
+    beside = f'and the tolerance of {decimal(tolerance, 3)} K ' if tolerance else ''
+    return '' if (hot / scale, cold / scale) == exact else ROUNDED + beside + ', and '.join(parts)
