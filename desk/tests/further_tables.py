@@ -89,7 +89,8 @@ FOUR_SHEETS = workbook(
     Economics=[['Economic data'], ['Plant life', 5, 'yr'], ['Interest rate', 10, '%']])
 # The published targets of these tables in their own units, to the last digit.
 OWN_UNITS = {'Douglas, published': ('70', '60'), 'entering and leaving': ('500', '600'),
-             'millions in a title': ('1/2', '3/5'), 'Rankine': ('1/2', '3/5')}
+             'millions in a title': ('1/2', '3/5'), 'Rankine': ('1/2', '3/5'),
+             'pounds an hour': ('500000', '600000')}
 # Gundersen, A Process Integration Primer (2000): 1000 and 800 kW at 20 K, from memory.
 PRIMER = '''Stream;Ts;Tt;mCp;ΔH;h
 ID;°C;°C;kW/°C;kW;kW/m2°C
@@ -216,6 +217,74 @@ Name;Temperature [C];Heat Flow [kW];Vapour Fraction;Pressure [kPa]
 EFFLUENT;170,0;330,0;0,000;500
 EFFLUENT;60,0;0,0;0,000;500
 '''
+POUNDS = '''Stream,Flow (lb/hr),Cp (Btu/lb-°F),Inlet (°F),Outlet (°F)
+H1,50000,0.6,260,160
+H2,30000,0.5,250,130
+C1,40000,0.5,120,235
+C2,80000,0.5,180,240
+'''
+ENTHALPY_CHANGES = '''Stream;Flow (kg/s);T1 (°C);T2 (°C);Δh (kJ/kg);Type
+H1;1.5;170;60;220;hot
+H2;1.0;150;30;180;hot
+C1;1.0;20;135;230;cold
+C2;2.0;80;140;120;cold
+'''
+RELEASED = '''Table 2-1: Hot process streams,,,,
+No.,Description,Inlet (°C),Outlet (°C),Heat released (kW)
+H1,Effluent,170,60,330
+H2,Overhead,150,30,180
+,Total,,,510
+,,,,
+Table 2-2: Cold process streams,,,,
+No.,Description,Inlet (°C),Outlet (°C),Heat required (kW)
+C1,Feed,20,135,230
+C2,Recycle,80,140,240
+,Total,,,470
+'''
+EVAPORATOR = '''Stream;Kind;Supply (°C);Target (°C);CP (kW/K);Latent heat (kW);Remarks
+Feed;cold;15;80;5,2;;
+Effect 1;cold;80;80;;1200;boils
+Vapour 1;hot;80;80;;1150;condenses
+Condensate;hot;80;30;2,1;;
+Product;hot;80;25;2,0;;
+'''
+COSTS_BELOW = '''Stream;Tin [°C];Tout [°C];CP [kW/K]
+H1;160;93;8,79
+H2;249;138;10,55
+C1;60;160;7,62
+C2;116;260;6,08
+;;;
+Annual operating hours;8500;h;
+Interest rate;10;%;
+Plant life;5;years;
+'''
+UNITS_ABOVE = '''T in K, CP in kW/K
+Stream,T_supply,T_target,CP
+C1,293.15,408.15,2
+C2,353.15,413.15,4
+H1,443.15,333.15,3
+H2,423.15,303.15,1.5
+'''
+UNLIMITED = '''Stream;Kind;Supply (°C);Target (°C);Duty (kW);Max (kW);Price (€/MWh)
+H1;hot;170;60;330;;
+H2;hot;150;30;180;;
+C1;cold;20;135;230;;
+C2;cold;80;140;240;;
+HP;heater;250;;;unlimited;35
+CW;cooler;20;;;∞;1
+'''
+LETTERS_FRENCH = '''Flux;Type;Te (°C);Ts (°C);mCp (kW/K)
+F1;C;170;60;3
+F2;C;150;30;1,5
+F3;F;20;135;2
+F4;F;80;140;4
+'''
+LETTERS_GERMAN = '''Strom;Art;TE (°C);TA (°C);W (kW/K)
+1;H;170;60;3
+2;H;150;30;1,5
+3;K;20;135;2
+4;K;80;140;4
+'''
 FURTHER = {
     'Douglas, published': PlantTable(DOUGLAS, 20.514978, 17.584267, '10 °F', .5),
     'HYSYS, heaters side by side': PlantTable(HYSYS_HEATERS, 20, 60),
@@ -238,4 +307,9 @@ FURTHER = {
     'duties in two columns': PlantTable(TWO_DUTIES, 20, 60),
     'available and required': PlantTable(REQUIRED, 20, 60),
     'heating curves side by side': PlantTable(workbook(CURVES), 60, 170),
-    'heating curves with heat flows': PlantTable(HEAT_FLOWS, 130, 0)}
+    'heating curves with heat flows': PlantTable(HEAT_FLOWS, 130, 0),
+    'pounds an hour': PlantTable(POUNDS, SEIDER_HOT, SEIDER_COLD, '10 °F', 3),
+    'changes of enthalpy': PlantTable(ENTHALPY_CHANGES, 20, 60), 'released and required': PlantTable(RELEASED, 20, 60),
+    'evaporator': PlantTable(EVAPORATOR, 1252, 1079), 'costs below': PlantTable(COSTS_BELOW, 127.68, 250.14),
+    'units above the headings': PlantTable(UNITS_ABOVE, 20, 60), 'unlimited utilities': PlantTable(UNLIMITED, 20, 60),
+    'French letters': PlantTable(LETTERS_FRENCH, 20, 60), 'German letters': PlantTable(LETTERS_GERMAN, 20, 60)}

@@ -2,8 +2,8 @@
 from __future__ import annotations
 
 import pytest
-from further_tables import (BOILING, CURVES, FOOTNOTES, LATENT, QUESTIONS, RANKINE, REQUIRED, TWO_DUTIES, UNISIM,
-                            UNSIZED)
+from further_tables import (BOILING, COSTS_BELOW, CURVES, ENTHALPY_CHANGES, FOOTNOTES, LATENT, LETTERS_FRENCH,
+                            LETTERS_GERMAN, QUESTIONS, RANKINE, REQUIRED, TWO_DUTIES, UNISIM, UNSIZED)
 from tabled import made, refusal, streams, workbook
 
 from pinchdesk.tables.convert import Wanted
@@ -108,3 +108,22 @@ def test_a_curve_has_the_name_of_its_title() -> None:
                                   'Differenza minima di temperatura = 10 °C', 'minimum approach 10 K'])
 def test_a_title_has_the_least_difference_in_five_languages(said: str) -> None:
     assert made(f'{said}\n{HEAD}', Wanted()).case.contribution == 50
+
+
+def test_letters_of_kinds_are_those_of_one_language() -> None:
+    assert [row[0] for row in streams(LETTERS_FRENCH)] == ['hot', 'hot', 'cold', 'cold']
+    assert 'is not a kind' in refusal(LETTERS_FRENCH.replace('F2;C', 'F2;H'))
+    assert 'runs the other way' in refusal(LETTERS_FRENCH.replace('170;60', '60;170'))
+    assert streams(LETTERS_GERMAN) == streams(LETTERS_GERMAN.replace(';K;', ';C;'))
+
+
+def test_a_latent_heat_is_no_change_of_enthalpy() -> None:
+    assert streams(ENTHALPY_CHANGES)[0][-2:] == (300, 0)
+    assert 'a CP or a duty is missing' in refusal(ENTHALPY_CHANGES.replace('Δh (kJ/kg)', 'Latent heat (kJ/kg)'))
+    assert 'a CP or a duty is missing' in refusal(ENTHALPY_CHANGES.replace('Flow (kg/s)', 'Flow (m3/s)'))
+
+
+def test_rows_of_costs_are_passed_over_and_streams_are_not() -> None:
+    assert any('Interest rate 10 %' in note for note in made(COSTS_BELOW).notes)
+    assert refusal(COSTS_BELOW.replace('Plant life;5;years', 'Plant air;5;years'))
+    assert refusal(COSTS_BELOW.replace('Plant life;5;years', 'Plant life;5;60'))

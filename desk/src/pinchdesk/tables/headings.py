@@ -73,7 +73,18 @@ def reading(name: str, unit: str) -> tuple[Heading | None, str]:
         return Heading.SPECIFIC, unit
     if heading is Heading.LOAD and not is_unit(unit, Kind.HEAT) and fits(Heading.MASS, unit):
         return None, ''
+    if heading is Heading.LOAD and not is_unit(unit, Kind.HEAT) and fits(Heading.LATENT, unit):
+        return Heading.LATENT, unit
+    if heading is Heading.LATENT and is_unit(unit, Kind.HEAT):
+        return Heading.LOAD, unit
     return heading, unit
+
+
+def is_change(title: str) -> bool:
+    """Whether a heading of heats per mass is that of a change of enthalpy, as `Δh (kJ/kg)`, and of no latent heat."""
+    parts = bracketed(title)
+    names = [parts[0]] if parts else [name for name, _ in splits(title)]
+    return any(meaning(name) is Heading.LOAD for name in (*names, title))
 
 
 def symbol(name: str, unit: str) -> Heading | None:

@@ -26,6 +26,8 @@ TEXTS = (Heading.NAME, Heading.NUMBER, Heading.KIND)
 # What says how much heat a stream has.
 SIZES = (Heading.CP, Heading.LOAD, Heading.MASS)
 OF_UTILITIES = (Heading.PRICE, Heading.LEAST, Heading.MOST)
+# Letters of kinds in French, Spanish and Italian (`C` and `F`), and in German (`H` and `K`).
+LETTERS = ({'c': 'hot', 'f': 'cold'}, {'h': 'hot', 'k': 'cold'})
 # What heads the heat of a heating curve, and what no table of such curves has.
 ENTHALPY = frozenset('h enthalpy enthalpie enthalpiestrom entalpia enthalpyflow heatcontent cumulativeenthalpy heatflow'
                      .split())
@@ -44,7 +46,8 @@ class Layout:
     words there that are neither headings nor units of a number; `named` is False where the numbers of the streams
     stand in for names, `twins` has columns that say the same in another unit, `section` what the heading of the names
     says of the streams, `open_pair` the titles of a supply and a target that may be the other way round; `curve` where
-    its rows are points of heating curves; `sides` has the kind of each row that the column of its duty says."""
+    its rows are points of heating curves; `sides` has the kind of each row that the column of its duty says,
+    `letters` what letters in the column of kinds mean, where they are those of another language."""
 
     columns: Mapping[Heading, int] = field(default_factory=dict)
     units: Mapping[int, str] = field(default_factory=dict)
@@ -57,6 +60,7 @@ class Layout:
     curve: bool = False
     open_pair: tuple[str, str] | None = None
     sides: Mapping[int, str] = field(default_factory=dict)
+    letters: Mapping[str, str] = field(default_factory=dict)
 
     @property
     def headed(self) -> bool:
@@ -122,6 +126,7 @@ class Draft:
                 # No temperature or heat stands below a heading of names.
                 heading, unit = None, ''
             if heading:
+                self.drop_words(column, heading, self.heads[-2])
                 self.headings[column], self.titles[column] = heading, cell.text
             elif has_unit(self.headings.get(column, Heading.NAME)) and cell.text not in EMPTY:
                 unit = stripped(cell.text)
@@ -135,6 +140,13 @@ class Draft:
             if unit and self.units.setdefault(column, unit) != unit:
                 cause = f'two units, `{self.units[column]}` above and `{unit}` here'
                 raise self.table.refusal(row.number, column, cause)
+
+    def drop_words(self, column: int, heading: Heading, above: int) -> None:
+        """Takes what stands above another heading, as `CP in kW/K` above `Supply`, for words beside the headings."""
+        unit, before = self.units.get(column, ''), self.headings.get(column)
+        if before and before is not heading and unit and not fits(heading, unit):
+            self.beside.append(Words(above, column, self.titles[column]))
+            del self.units[column]
 
     def is_strange(self, column: int, unit: str) -> bool:
         """Whether what stands behind a heading is no unit of it, and a unit of it stands below."""
@@ -160,7 +172,7 @@ class Draft:
         section = section_of(self.titles.get(columns[Heading.NAME], ''))
         return Layout(columns, self.units, self.titles, tuple(self.heads), (*beside, *self.beside), named, twins,
                       section, self.is_curve(range(max(self.titles, default=0) + 1)), self.open_pair(columns),
-                      self.sides)
+                      self.sides, letters_of(columns.get(Heading.KIND), rows))
 
     def open_pair(self, columns: Mapping[Heading, int]) -> tuple[str, str] | None:
         """The titles of supply and target, where these may be the other way round."""
@@ -320,6 +332,13 @@ def is_nothing(cell: Cell) -> bool:
     """Whether there is nothing in a cell, or a 0, beside the column where a duty stands."""
     return cell.number == 0 or cell.number is None and not cell.fault and (
         cell.text in EMPTY or re.fullmatch('0(?:[.,]0*)?', cell.text) is not None)
+
+
+def letters_of(column: int | None, rows: Sequence[TableRow]) -> Mapping[str, str]:
+    """What the letters of a column of kinds mean: `C` is cold beside `H`, and hot beside `F`, as in French."""
+    found = {row.cell(column).text.strip('. ').lower() for row in rows} if column is not None else set()
+    letters = {text for text in found if len(text) == 1 and text not in EMPTY}
+    return next((meant for meant in LETTERS if letters == set(meant)), {})
 
 
 def merged_end(table: Table, row: TableRow, column: int) -> int:

@@ -13,8 +13,10 @@ from ..formats.case import ANY_HEAT, Case, Side, Stream, Utility
 from ..formats.case_units import TEMPERATURES, CaseUnits
 from ..formats.limits import CONTRIBUTION, CP, HEAT, LOAD, TEMPERATURE, Limit
 from .cells import CellReader, Told
+from .products import product_of
 from .rows import Line, unit_behind
 from .units import Kind, same_unit, unit_of
+from .vocabulary import Heading
 
 # Heats of which a unit of CPs may be made, where no heat has a unit.
 HEATS = ('kW', 'MW', 'W', 'Btu/h', 'MMBtu/h', 'kBtu/h', 'kcal/h', 'Gcal/h', 'kJ/h', 'MJ/h', 'GJ/h')
@@ -85,10 +87,23 @@ def units_of_table(reader: CellReader, lines: Sequence[Line]) -> tuple[str, str,
     if len(heats) == 1:
         return temperature, *next((text, factor) for factor, text in heats.items())
     # A CP in 10 W/K is so many W to a degree.
-    flows = {unit_of(text, Kind.FLOW).factor * 10 / TEMPERATURES[temperature][0] for text in texts.get(Kind.FLOW, [])}
+    factors = {unit_of(text, Kind.FLOW).factor for text in texts.get(Kind.FLOW, [])} or products_of(reader, lines)
+    flows = {factor * 10 / TEMPERATURES[temperature][0] for factor in factors}
     found = [name for name in HEATS if {unit_of(name, Kind.HEAT).factor} == flows]
     heat = found[0] if found and not heats else 'kW'
     return temperature, heat, Fraction(unit_of(heat, Kind.HEAT).factor)
+
+
+def products_of(reader: CellReader, lines: Sequence[Line]) -> set[Fraction]:
+    """What the units of mass flows and specific heats make together, in the program's unit of CPs."""
+    found: set[Fraction] = set()
+    for line in lines:
+        columns = [line.at(heading) for heading in (Heading.MASS, Heading.SPECIFIC)]
+        units = [reader.unit_beside(line.row, column) for column in columns
+                 if column is not None and reader.given(line.row, column)]
+        factor = product_of(units[0], units[1], Heading.SPECIFIC) if len(units) == 2 else None
+        found |= {factor} if factor else set()
+    return found
 
 
 def temperature_of(text: str) -> str:

@@ -24,6 +24,14 @@ SUM = re.compile(rf'{SUM_WORDS}\b.*|[Σ∑].*', re.I)
 SUM_ALONE = re.compile(rf'(?:{SUM_WORDS}|min|max|minimum|maximum|[Σ∑])[\s.:]*', re.I)
 # What a spreadsheet writes in place of a value.
 ERROR = re.compile(r'#[A-Z0-9/]+[!?]|#N/A|#NV')
+# What stands below a table, and is no stream.
+OF_COSTS = re.compile(r'(?:annual\s+|yearly\s+)?(?:operating|operation)\s+(?:hours|time)|'
+                      r'(?:hours|years)\s+of\s+operation|'
+                      r'(?:rate\s+of\s+)?interest(?:\s+rate)?|(?:plant\s+|project\s+)?life(?:\s*time)?|'
+                      r'annuali[sz]ation\s+factor|(?:heat\s+)?exchangers?\s+(?:capital\s+)?costs?|capital\s+costs?|'
+                      r'betriebsstunden|zinssatz|nutzungsdauer|heures\s+de\s+fonctionnement|taux\s+d.int[ée]r[êe]t|'
+                      r'horas\s+de\s+operaci[óo]n|tasa\s+de\s+inter[ée]s|ore\s+di\s+funzionamento|'
+                      r'tasso\s+di\s+interesse', re.I)
 # `1) design case` below a table.
 FOOTNOTE = re.compile(r'[0-9]{1,2}\)\s*[^\W\d]')
 LONGEST = 120
@@ -211,7 +219,8 @@ def headed_line(row: TableRow, layout: Layout, section: Section | None, told: To
     """A row below headings as a line; None where its kind is none, which is a fault."""
     column = layout.columns.get(Heading.KIND)
     text = row.cell(column).text if column is not None else ''
-    kind = kind_of(text) if text and text not in EMPTY else ''
+    letter = layout.letters.get(text.strip('. ').lower())
+    kind = letter or (kind_of(text) if text and text not in EMPTY else '')
     if kind is None and len(list(row.filled())) > 1 and not SUM.fullmatch(text) and not is_comment(row):
         told.fault(row.number, column, f'`{text}` is not a kind: use hot, cold, heater, cooler, contribution or forbid')
         return None
@@ -281,6 +290,9 @@ def why_passed(line: Line, told: Told, below: bool) -> str:
         return ''
     if is_legend(line):
         return LEGEND
+    if below and OF_COSTS.fullmatch(line.name()) and not is_number(line.cell(Heading.TARGET)) and not any(
+            line.has(heading) for heading in (Heading.CP, Heading.LOAD)):
+        return 'of costs, which stand below a title `Costs`'
     if not line.name() and below and is_sum_beside(line):
         return 'a sum'
     if not (line.cell(Heading.SUPPLY).empty and line.cell(Heading.TARGET).empty):

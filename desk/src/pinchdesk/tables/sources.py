@@ -13,18 +13,21 @@ from ..formats.limits import CONTRIBUTION, CP, HEAT, LOAD, TEMPERATURE, Limit, f
 from ..formats.shown import decimal
 from .cells import CellReader, Entered, Told
 from .doubts import side_of_name
-from .headings import KINDS
+from .headings import KINDS, is_change
 from .own_units import ExactSource
+from .products import product_of
 from .roundings import RoundingSpan, span_of
 from .rows import Line, shortened
 from .sections import RAISED, side_of_utility
 from .segmented import temperature
-from .units import Kind, size_of
+from .units import Kind
 from .vocabulary import Heading, squeezed
 
 # Headings of a CP that are said of a specific heat too.
 SPECIFIC_TOO = frozenset(('cp', 'heatcapacity', 'thermalcapacity', 'capacitethermique', 'capacidadcalorifica',
                           'capacitatermica', 'capacitecalorifique'))
+# What stands in place of the most that a utility gives or takes.
+UNLIMITED = frozenset('unlimited unbounded infinite infinity inf unbegrenzt illimite ilimitado illimitato'.split())
 # What marks a row as left out elsewhere.
 LEFT_OUT = re.compile(r'//|--|~~|[%!;]|/\*|<!|rem\b', re.I)
 # A contribution that is that of the case, as simulators call it.
@@ -212,7 +215,7 @@ class Entries:
                 way = 'cools down' if side is Side.HOT else 'warms up'
                 sign = 'above' if duty.value > 0 else 'below'
                 what = f'the duty {duty.text} is {sign} 0, and the stream {way}: a duty below 0 is what a stream gives'
-                self.told.fault(line.row.number, line.at(Heading.LOAD), what)
+                self.told.fault(line.row.number, line.at(Heading.LOAD) or line.at(Heading.LATENT), what)
 
     def gives_above(self) -> bool:
         """Whether all duties above 0 are what hot streams give, where a kind, a title or a name says of each which it
@@ -241,6 +244,9 @@ class Entries:
             column, made, exact = load, self.flow_of(line, duty, span), abs(duty.value) / span
             what = f'the CP of the duty {duty.text}, {decimal(exact / 100, 6)} kW/K,'
         else:
+            changed = self.change(line, side, span) if not self.given(line, Heading.SPECIFIC) else None
+            if changed is not None:
+                return changed
             product = self.product(line, Heading.SPECIFIC) if not self.given(line, Heading.LOAD) else None
             if product is None:
                 self.without_size(line)
@@ -249,6 +255,23 @@ class Entries:
             made = self.reader.rounded(line.row, column, Kind.FLOW, product, self.scale)
         heading = next(found for found, at in line.columns.items() if at == column)
         self.check(line, heading, CP, exact, what if made else f'the CP is 0 in 10 W/K: {what}')
+        return made
+
+    def change(self, line: Line, side: Side | None, span: int) -> int | None:
+        """The CP of a mass flow and the change of its specific enthalpy, as `Δh (kJ/kg)`; None where they are not
+        there, or the column is one of latent heats."""
+        column = line.at(Heading.LATENT)
+        if column is None or not self.given(line, Heading.LATENT) or self.given(line, Heading.LOAD):
+            return None
+        title = self.reader.headed(line.row.number, column)[1]
+        duty = self.product(line, Heading.LATENT) if is_change(title) else None
+        if duty is None:
+            return None
+        if side:
+            self.duties.append((line, side, duty))
+        made = self.flow_of(line, duty, span, column)
+        what = f'the CP of the duty {duty.text}'
+        self.check(line, Heading.LATENT, CP, abs(duty.value) / span, what if made else f'the CP is 0 in 10 W/K: {what}')
         return made
 
     def is_open(self, line: Line) -> bool:
@@ -291,14 +314,14 @@ class Entries:
         self.products[line.row.number, heading] = value
         return entered
 
-    def flow_of(self, line: Line, duty: Entered, span: int) -> int:
+    def flow_of(self, line: Line, duty: Entered, span: int, column: int | None = None) -> int:
         """A CP from the duty between both temperatures."""
         heat = abs(duty.value) * self.scale
         made = rounded(heat / span)
         if made * span != heat:
             what = f'from {duty.text} the CP is rounded to {Kind.FLOW.shown(made, self.scale)}, which makes ' \
                    f'{Kind.HEAT.shown(made * span, self.scale)}'
-            self.told.rounding(line.row.number, line.at(Heading.LOAD), what)
+            self.told.rounding(line.row.number, line.at(Heading.LOAD) if column is None else column, what)
         return made
 
     def agree(self, line: Line, flow: Entered, duty: Entered, span: int) -> bool:
@@ -390,7 +413,9 @@ class Entries:
         return Utility(name, side, level, least, most, 0, 0), share
 
     def bound(self, line: Line, heading: Heading, usual: int) -> int | None:
-        if not self.given(line, heading):
+        text = line.cell(heading).text
+        endless = heading is Heading.MOST and (squeezed(text) in UNLIMITED or text == '∞')
+        if endless or not self.given(line, heading):
             return usual
         return self.limited(line, heading, Kind.HEAT, HEAT)
 
@@ -417,13 +442,3 @@ class Entries:
         name = self.names.get(line.name(), line.name())
         measured = Measured(Fraction(decimal(value, 12)), unit)
         return Overall(name, '', measured) if heading is Heading.OVERALL else Film(name, measured)
-
-
-def product_of(mass: str, specific: str, heading: Heading) -> Fraction | None:
-    """What the number of a mass flow times that of a specific or a latent heat is in the program's unit."""
-    per_kelvin = '/K' if heading is Heading.SPECIFIC else ''
-    for amount in ('kg', 'mol'):
-        flow, heat = size_of(mass, f'{amount}/s'), size_of(specific, f'J/{amount}{per_kelvin}')
-        if flow is not None and heat is not None:
-            return flow * heat / 10 if heading is Heading.SPECIFIC else flow * heat
-    return None

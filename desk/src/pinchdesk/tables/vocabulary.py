@@ -69,7 +69,7 @@ MEANINGS: dict[str, Heading] = {word: heading for heading in Heading for word in
 # Words that say nothing beside a heading: `Stream supply temperature`, `Température d'entrée`, `T in`.
 FILLING = frozenset('stream streams process of the de d di del della dell du des la le el il lo l der die das a value '
                     'strom stromes flux corriente corrente total calculated calc added removed '
-                    'exchanged transferred net'.split())
+                    'exchanged transferred released required absorbed net'.split())
 # Headings that speak of another stream than that of the row, as simulators name what leaves an exchanger.
 OF_OTHERS = frozenset('outletstream outstream streamout productstream prodstream'.split())
 WARM = frozenset('t temp temperature temperatur temperatura temperatures'.split())
