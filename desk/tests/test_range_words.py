@@ -88,9 +88,32 @@ def test_a_utility_in_segments_is_one_stream(pinch: Pinch) -> None:
     (';0,5', ';', 'the price of water is missing'),
     ('1940;', '1940;-14', 'have two prices: a utility has one'),
     ('cooler;steam;200;250', 'cooler;steam;210;250', 'the segments of a stream meet'),
-    ('cooler;water;20;30', 'cooler;water;30;20', 'runs the other way')])
+    ('cooler;water;20;30', 'cooler;water;30;20', 'a cooler runs the other way: it warms up'),
+    ('cooler;steam;100;200;4,2;;-15\ncooler;steam;200;200;;1940;\ncooler;steam;200;250;2,5;;',
+     'cooler;steam;200;200;;1940;-15\ncooler;steam;200;200;;125;', 'steam has one temperature'),
+    ('water;20;30;;', 'water;20;30;4;', 'a utility has no cp: what it gives or takes is found')])
 def test_what_is_wrong_with_a_range_is_refused_by_its_row(old: str, new: str, cause: str) -> None:
     assert old in STEAM and cause in refusal(STEAM.replace(old, new, 1))
+
+
+def test_a_utility_in_segments_is_no_level() -> None:
+    with pytest.raises(Refused) as refused:
+        case_of(STEAM, ranges='level')
+    assert 'row 5 column 2: steam has several segments, of which --ranges level makes no level' in refused.value.text
+
+
+@pytest.mark.parametrize('rows', ['heater;HOT;1500;160;;;35\n', 'heater;gas;1500;160;;;35\ncooler;COLD;10;;;;2\n'])
+def test_names_of_what_stands_in_are_refused_in_words(rows: str) -> None:
+    with pytest.raises(Refused) as refused:
+        case_of(f'{FOUR}{rows}cooler;water;20;30;;;0,5\n')
+    assert 'is the name of what stands in beside utilities with a range' in refused.value.text
+
+
+def test_a_least_and_a_most_are_told() -> None:
+    table = 'Kind;Name;Supply;Target;CP;Least;Most;Price\n;;°C;°C;kW/K;kW;kW;EUR/MWh\nhot;H;100;10;5;;;\n' \
+            'cold;C;20;60;4;;;\nheater;gas;150;100;;200;;35\ncooler;CW;20;30;;;100;0,5\ncooler;brine;-5;0;;;;25\n'
+    notes = converted(Pinch(), TextFile('t.csv', table.encode()), CaseOptions('10').wanted).notes
+    assert 'gas has its least, 200 kW' in notes and 'CW has its most, 100 kW' in notes
 
 
 def test_one_that_is_not_hot_enough_is_refused_by_its_row() -> None:

@@ -258,7 +258,18 @@ def with_sizes(pinch: Pinch, base: Case, ranges: Sequence[UnsizedRange], forbids
     case = replace(case, basis=replace(basis, ranges=kept))
     unused = tuple(f'{utility.name} is not used: no heat of it is needed, or others are cheaper'
                    for utility in ranges if utility not in used)
-    return SizedCase(case, (*unused, *standing_told(base, case)), checked)
+    bounded = tuple(bound_told(utility, sizing) for utility in used)
+    return SizedCase(case, (*unused, *(told for told in bounded if told), *standing_told(base, case)), checked)
+
+
+def bound_told(utility: UnsizedRange, sizing: Sizing) -> str:
+    """That a utility has the least or the most that its table gives it; empty where neither sets its size."""
+    least, most = sizing.bounds(utility)
+    size, shown = sizing.sizes[utility.name], Shown(sizing.base.basis)
+    if size == least:
+        return f'{utility.name} has its least, {shown.heat(utility.least)} {shown.heat_unit}'
+    return f'{utility.name} has its most, {shown.heat(utility.most)} {shown.heat_unit}' \
+        if size == most and utility.most < ANY_HEAT else ''
 
 
 def check_counts(base: Case, ranges: Sequence[UnsizedRange]) -> None:
@@ -270,7 +281,8 @@ def check_counts(base: Case, ranges: Sequence[UnsizedRange]) -> None:
             raise Refused(3, '', 'range', f'a case has at most {most} {side.value} streams, and with its utilities '
                           f'with a range, which it holds as streams, this one has {own + beside}: --ranges level takes '
                           'the worse end of each as its level')
-    standing = [utility.name for utility in base.utilities if utility.name in STANDING.values()]
+    names = [*(utility.name for utility in base.utilities), *(utility.name for utility in ranges)]
+    standing = [name for name in names if name in STANDING.values()]
     if standing:
         raise Refused(3, '', 'range', f'{standing[0]} is the name of what stands in beside utilities with a range: '
                       'give this one another name')

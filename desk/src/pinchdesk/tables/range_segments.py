@@ -60,6 +60,12 @@ class SegmentsOfRanges:
                 # What is wrong with the others is told.
                 continue
             line, first, own = next(part for part in parts if part[0].name() == whole.segments[0])
+            if self.entries.levels:
+                self.told.fault(line.row.number, line.at(Heading.NAME), f'{whole.name} has several segments, of which '
+                                '--ranges level makes no level: enter it in one row')
+            if all(stream.latent for _, stream, _ in parts):
+                self.told.fault(line.row.number, line.at(Heading.NAME), f'{whole.name} has one temperature: a utility '
+                                'at one level is one row, without a load')
             priced = [(segment, self.prices.price(segment)) for segment, _, _ in parts
                       if self.entries.given(segment, Heading.PRICE)]
             for segment, price in priced[1:]:

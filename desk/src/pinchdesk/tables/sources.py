@@ -107,11 +107,11 @@ class Entries:
             said = fitting_scale(self.heats, self.scale)
             self.told.faults += [Refused(3, '', 'scale', said)] if said else []
 
-    def none_of(self, line: Line, what: str, headings: tuple[Heading, ...]) -> None:
+    def none_of(self, line: Line, what: str, headings: tuple[Heading, ...], why: str = '') -> None:
         """Tells a fault for each of these columns in which there is something."""
         for heading in headings:
             if line.at(heading) is not None and self.given(line, heading):
-                self.told.fault(line.row.number, line.at(heading), f'{what} has no {heading.name.lower()}')
+                self.told.fault(line.row.number, line.at(heading), f'{what} has no {heading.name.lower()}{why}')
 
     def temperature(self, line: Line, heading: Heading) -> int | None:
         if not self.given(line, heading):
@@ -122,7 +122,8 @@ class Entries:
     def stream(self, line: Line, has_price: bool = False) -> tuple[Stream, int | None] | None:
         """A stream with the contribution of its own. A segment of a utility may have a price."""
         name, share = self.name(line), self.share(line)
-        self.none_of(line, 'a stream', (Heading.LEAST, Heading.MOST, *(() if has_price else (Heading.PRICE,))))
+        what, others = ('a segment of a utility', ()) if has_price else ('a stream', (Heading.PRICE,))
+        self.none_of(line, what, (Heading.LEAST, Heading.MOST, *others))
         supply, target = self.temperature(line, Heading.SUPPLY), self.temperature(line, Heading.TARGET)
         if supply is None or target is None:
             return None
@@ -385,7 +386,8 @@ class Entries:
             return level
         column = line.at(Heading.TARGET)
         if (level > end) != (line.kind == 'heater'):
-            self.told.fault(line.row.number, column, f'a {line.kind} runs the other way')
+            way = 'cools down' if line.kind == 'heater' else 'warms up'
+            self.told.fault(line.row.number, column, f'a {line.kind} runs the other way: it {way}')
             return None
         if not self.levels:
             self.ends[line.row.number] = end
@@ -399,7 +401,7 @@ class Entries:
     def utility(self, line: Line) -> tuple[Utility, int | None] | None:
         """A heater or a cooler, without its price, with the contribution of its own."""
         name, level, share = self.name(line), self.level(line), self.share(line)
-        self.none_of(line, 'a utility', (Heading.CP, Heading.LOAD))
+        self.none_of(line, 'a utility', (Heading.CP, Heading.LOAD), ': what it gives or takes is found')
         if level is None:
             return None
         least, most = self.bound(line, Heading.LEAST, 0), self.bound(line, Heading.MOST, ANY_HEAT)

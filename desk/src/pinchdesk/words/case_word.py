@@ -69,12 +69,13 @@ def with_ranges(table: Converted, pinch: Pinch) -> Converted:
     by its row."""
     if not table.ranges:
         return table
-    row = table.ranges[0][0]
     try:
         made = with_sizes(pinch, table.case, [utility for _, utility in table.ranges], table.range_forbids)
     except Refused as fault:
-        named = (at for at, utility in table.ranges if fault.text.startswith(f'{utility.name} '))
-        raise table.table.refusal(next(named, row), None, fault.text) from fault
+        row = next((at for at, utility in table.ranges if fault.text.startswith(f'{utility.name} ')), None)
+        if row is None:
+            raise
+        raise table.table.refusal(row, None, fault.text) from fault
     shown = Shown(made.case.basis)
     rows = {utility.name: at for at, utility in table.ranges}
     told = [f'{table.table.place(rows[checked.utility.name], None)}: {range_told(checked, shown)}'
