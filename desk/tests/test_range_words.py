@@ -168,10 +168,12 @@ def test_the_table_that_they_came_from_is_found_again(plant: Path) -> None:
 
 @pytest.mark.long
 def test_the_page_has_them(plant: Path) -> None:
-    answer('page', 'case.csv', '--table', 't.csv', '-o', 'p.html', cwd=plant)
+    (plant / 'net.txt').write_text(Pinch().design((plant / 'case.csv').read_bytes()).text, encoding='utf-8')
+    answer('page', 'case.csv', 'net.txt', '--table', 't.csv', '-o', 'p.html', cwd=plant)
     page = (plant / 'p.html').read_text(encoding='utf-8')
     assert 'Utilities with a range, as streams' in page and '<td>utility</td>' in page
-    assert 'it is not enough: 0.1 kW are missing' in page
+    assert 'it is not enough: 0.1 kW are missing' in page and 'with the utilities with a range 0.971 EUR/h' in page
+    assert 'cost with the utilities with a range, EUR/h' in page and page.count('0.971') == 4
 
 
 def test_what_is_left_and_what_is_taken_out_is_a_case_again(plant: Path) -> None:

@@ -6,6 +6,7 @@ from fractions import Fraction
 
 from ..analysis.findings import REASONS
 from ..formats.case import Side
+from ..formats.range_parts import cost_of_ranges, range_costs
 from ..formats.shown import Shown
 from ..program.verdicts import Accepted, Place, PlaceKind, Rejected, TooFine, Verdict
 from .areas import Areas
@@ -105,7 +106,7 @@ def faults_of(stand: Stand, plan: HandPlan) -> dict[str, str]:
 def score_of(standing: Standing) -> ScoreView:
     """Target, what can be reached, as it stands; units beside the rule, cost beside the floor."""
     plan, whole, reach = standing.plan, standing.whole, standing.reach
-    shown, accepted = Shown(plan.case.basis), standing.stand.accepted
+    shown, accepted, beside = Shown(plan.case.basis), standing.stand.accepted, cost_of_ranges(plan.case)
     cold_more = whole.targets.cold - whole.targets.hot
     placed, left, rule = count_placed(plan), standing.left, standing.rule
     units = f'{placed} + {left} = {placed + left}; the rule: {rule}' if left else f'{placed}; the rule: {rule}'
@@ -122,8 +123,8 @@ def score_of(standing: Standing) -> ScoreView:
         shown.heat(stands_hot + cold_more) if stands_hot is not None else '',
         shown.heat(max(Fraction(0), reached - whole.targets.hot)) if reached is not None else '',
         bar_of_score(whole, reached, stands_hot), placed, left, rule, units,
-        money(shown, accepted.cost) if accepted else '', money(shown, accepted.floor) if accepted else '',
-        notes_of(standing, known))
+        money(shown, accepted.cost + beside) if accepted else '',
+        money(shown, accepted.floor + beside) if accepted else '', notes_of(standing, known))
 
 
 def notes_of(standing: Standing, known: bool) -> tuple[str, ...]:
@@ -131,6 +132,11 @@ def notes_of(standing: Standing, known: bool) -> tuple[str, ...]:
     cost = f', {areas.cost} with the utilities' if areas.cost else ''
     notes = [f'area {areas.area}{cost}'] if areas.area else []
     notes += [areas.missing] if areas.missing else []
+    case = standing.plan.case
+    if case.basis.ranges and standing.stand.accepted:
+        shown = Shown(case.basis)
+        named = ', '.join(f'{name} {money(shown, cost)}' for name, cost in range_costs(case))
+        notes.append(f'cost and floor have in them: {named}, which the program does not know')
     if standing.reach is not None and not standing.reach.exact:
         notes.append('what can be reached is rounded up: what is left has finer numbers than a case can hold')
     if standing.reach is None and known is False and standing.plan.open:

@@ -22,6 +22,7 @@ from ..analysis.utility_targets import UtilityTargets
 from ..errors import Status, WordsError, about
 from ..formats.case import ANY_HEAT, Case, Side, completed, read_case
 from ..formats.network import read_network
+from ..formats.range_parts import cost_of_ranges
 from ..formats.shown import Shown, decimal
 from ..formats.whole_streams import whole_streams
 from ..program.answers import Curves, Cut, HeatFlow, Targets
@@ -254,8 +255,8 @@ COSTS = ('cost', 'floor: no network costs less', 'cost above the floor')
 COMPARED = ('verdict', 'exchangers', *HEATS[:3], *COSTS, HEATS[3])
 
 
-def compared(networks: Sequence[Reviewed], shown: Shown) -> Sheet:
-    """The networks side by side, each in a column."""
+def compared(networks: Sequence[Reviewed], shown: Shown, case: Case) -> Sheet:
+    """The networks side by side, each in a column; the cost also with that of the utilities with a range."""
     columns: list[list[Cell]] = []
     for network in networks:
         verdict, count = network.verdict, Decimal(placed_count(network.followed))
@@ -271,8 +272,13 @@ def compared(networks: Sequence[Reviewed], shown: Shown) -> Sheet:
         columns.append([*cells, *[None] * (len(COMPARED) - len(cells))])
     names = [f'{name}, {shown.cost_unit}' if name in COSTS else f'{name} {shown.heat_unit}' if name in HEATS else name
              for name in COMPARED]
-    rows = tuple((name, *(column[at] for column in columns)) for at, name in enumerate(names))
-    return Sheet('Networks side by side', ('', *(network.given.name for network in networks)), rows)
+    rows = [(name, *(column[at] for column in columns)) for at, name in enumerate(names)]
+    if case.basis.ranges:
+        verdicts = [network.verdict for network in networks]
+        rows.append((f'cost with the utilities with a range, {shown.cost_unit}', *(
+            Decimal(shown.cost(verdict.cost + cost_of_ranges(case))) if isinstance(verdict, Accepted) else None
+            for verdict in verdicts)))
+    return Sheet('Networks side by side', ('', *(network.given.name for network in networks)), tuple(rows))
 
 
 @dataclass(frozen=True)
@@ -318,12 +324,12 @@ def page_of(review: Review, unfolded: bool = False, head: PageHead = PageHead())
         'targets': [*targets_sheets(answered.case, answered.targets), *review.ranges], 'tables': case_sheets(answered),
         'flow': flow_sheets(answered.case, answered.flow), 'cut': isinstance(answered.flow, Cut),
         'curves': curves_of(answered), 'areas': areas, 'area_pictures': area_pictures,
-        'compared': compared(networks, shown) if networks else None, 'bars': bars,
+        'compared': compared(networks, shown, answered.case) if networks else None, 'bars': bars,
         'title': head.titled(review.case.name), 'head': head_sheet(head, answered.case),
         'again': made_again(head, [(what, file.name) for what, file in files]),
         'digests': digests_sheet(review.digests, [(what, file.name, file.content) for what, file in files]),
         'understood': review.understood, 'utilities': list(asked_sheets(review.utilities)) if review.utilities else [],
-        'beside': beside_curve(review.utilities),
+        'beside': beside_curve(review.utilities), 'of_ranges': cost_of_ranges(answered.case),
     }
     page: str = template().render(values)
     return page
