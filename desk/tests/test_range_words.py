@@ -28,6 +28,7 @@ from pinchdesk.words.table_of_case import ReadingOptions, understood_of
 from pinchdesk.words.word import TextFile
 
 from conftest import EXAMPLES, Done, pinchdesk
+from live_desk import opened
 from tabled import made, refusal
 
 HEAD = 'Kind;Name;Supply;Target;CP;Duty;Price\n;;°C;°C;kW/K;kW;EUR/MWh\n'
@@ -174,6 +175,13 @@ def test_the_page_has_them(plant: Path) -> None:
     assert 'Utilities with a range, as streams' in page and '<td>utility</td>' in page
     assert 'it is not enough: 0.1 kW are missing' in page and 'with the utilities with a range 0.971 EUR/h' in page
     assert 'cost with the utilities with a range, EUR/h' in page and page.count('0.971') == 4
+
+
+def test_the_live_desk_has_their_cost_in_that_of_a_network(plant: Path, pinch: Pinch) -> None:
+    (plant / 'network.txt').write_text(pinch.design((plant / 'case.csv').read_bytes()).text, encoding='utf-8')
+    score = opened(plant).view().score
+    assert (score.cost, score.floor) == ('0.971 EUR/h', '0.971 EUR/h')
+    assert any('flue-gas 0.938 EUR/h, water 0.033 EUR/h' in note for note in score.notes)
 
 
 def test_what_is_left_and_what_is_taken_out_is_a_case_again(plant: Path) -> None:
