@@ -471,3 +471,16 @@ def test_one_coefficient_for_all_is_a_bound_and_the_floor(pinch: Pinch) -> None:
     assert found.area.bound and not found.remarks
     floor = area_floor(found.data, uses_of(case, pinch))
     assert floor.slice is None and floor.area == found.area.area.low
+
+
+def test_what_a_target_has_no_regard_to_is_said(pinch: Pinch) -> None:
+    """Steam of 200 °C that leaves at 145: H gives 190 kW up to there, H and steam 12.727 kW from 145 to 150 °C, where C
+    has 152.727 kW and 141.818 °C."""
+    close = targets(SMALL.replace('heater,S,2000,0', '#range,S,200,145,C,,\nheater,S,2000,0'), pinch)
+    assert close.remarks == ('utility S: with its real ends the balanced curves come within 8.18 K at 202.727 kW from '
+                             'the cold end, and 10 K are needed',)
+    assert not targets(SMALL, pinch).remarks
+    forbidding = targets(SMALL + 'forbid,S,W,,,,\n', pinch)
+    assert forbidding.remarks[0].startswith('the area by the formula has no regard to forbidden matches')
+    with pytest.raises(Refused, match='case #range of S: `X` is not a unit of temperature, as C, K or F'):
+        targets(SMALL.replace('heater,S,2000,0', '#range,S,200,145,X,,\nheater,S,2000,0'), pinch)

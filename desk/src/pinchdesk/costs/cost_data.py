@@ -127,8 +127,10 @@ class CostData:
     def resolved(self, what: str, reading: Callable[[Row], Result], row: Row) -> Result:
         try:
             return reading(row)
-        except (NoUnit, UnknownUnit) as fault:
+        except NoUnit as fault:
             raise refused(what, str(fault)) from fault
+        except UnknownUnit as fault:
+            raise refused(what, f'`{fault}` is not a unit of temperature, as C, K or F') from fault
 
     def range_of(self, row: UtilityRange) -> EndTemperatures:
         utility = self.case.source(row.utility)

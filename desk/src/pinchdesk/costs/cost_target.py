@@ -2,7 +2,7 @@
 that `pinch flow` printed."""
 from __future__ import annotations
 
-from collections.abc import Iterator, Sequence
+from collections.abc import Iterator, Mapping, Sequence
 from dataclasses import dataclass
 from fractions import Fraction
 
@@ -13,10 +13,11 @@ from ..program.answers import Cut, HeatFlow
 from ..program.run import CaseText, Pinch
 from .annual import AnnualCost, annual_cost, at_most, price_of, priced_parts
 from .area_target import AreaTarget, area_target, check_differences
-from .balanced import Carrier, HeatInterval, intervals_of
+from .balanced import Carrier, HeatInterval, carriers, intervals_of
 from .cost_data import CostData, EndTemperatures
 from .enclosure import Enclosure, total
 from .quick_area import quick_shells
+from .real_ends import close_curves
 from .shells import Duty, correction_at, shells_of, whole_shells
 from .unit_target import UnitTarget, unit_target
 
@@ -73,7 +74,7 @@ def priced_target(data: CostData, flow: HeatFlow, area: AreaTarget, found: UnitT
     parts = priced_parts(build, units, max(shells.shells if shells else units, at_most(build, built)))
     capital = price_of(data, law, built, parts)
     return CostTarget(data, flow, area, units, shells, parts, annual_cost(data, capital, flow.cost),
-                      tuple(left_out(data, area, law, found)))
+                      tuple(left_out(data, area, {use.name: use.heat for use in flow.uses}, found)))
 
 
 def shell_target(data: CostData, build: Build, built: Enclosure, regions: Sequence[Region],
@@ -114,9 +115,9 @@ def carrier_of(data: CostData, piece: Piece) -> Carrier:
     return Carrier(source, ends, data.watts(piece.heat), Fraction(0))
 
 
-def left_out(data: CostData, area: AreaTarget, law: CostLaw, units: UnitTarget) -> Iterator[str]:
+def left_out(data: CostData, area: AreaTarget, uses: Mapping[str, int], units: UnitTarget) -> Iterator[str]:
     """What the case says and a target cannot use, since it has no exchangers yet."""
-    build = data.build(Service.EXCHANGER)
+    build, law = data.build(Service.EXCHANGER), data.target_law
     if not units.exact:
         yield 'there are too many sources for the most independent sets to be known: units are sources less the sets ' \
               'that were found, or less one, on each side of the pinch'
@@ -127,6 +128,10 @@ def left_out(data: CostData, area: AreaTarget, law: CostLaw, units: UnitTarget) 
         yield f'the cost laws of {told} are those of single exchangers: the target has the one law for all of its area'
     if [row for row in data.rows(Build) if row is not build]:
         yield 'the target has all exchangers built as those between streams'
+    if data.case.forbids:
+        yield 'the area by the formula has no regard to forbidden matches: the parts of an interval meet as they lie'
+    intervals = [part.interval for part in area.intervals]
+    yield from map(str, close_curves(data, carriers(data, uses, bool(data.overalls)), intervals))
     if area.in_proportion:
         yield 'pairs that could meet have several coefficients: the target takes the hot and the cold parts of an ' \
               'interval to meet in proportion to their heats'
