@@ -9,7 +9,7 @@ from math import ceil
 from typing import Any
 
 import pytest
-from conftest import tried
+from conftest import example, tried
 from costed import NETWORK, SMALL, costed_case, law_rows, near, targets
 from fifty import FIFTY, digits, holds, width
 from hypothesis import given
@@ -239,6 +239,15 @@ def test_more_shells_because_of_their_most_area_have_their_own_ft(pinch: Pinch) 
     found = network_costs(SMALL.replace('counter-current,,,,exchanger', '1-2,0.9,9,m2,shell'), NETWORK, pinch)
     exchanger = found.areas.exchangers[0]
     assert exchanger.shells == 5 and near(exchanger.factor, '0.8579') and near(exchanger.area, '39.425')
+
+
+def test_a_kelvin_more_never_costs_anything(pinch: Pinch) -> None:
+    """With it E4 would do in four shells, which have a lower Ft than its five and are dearer."""
+    case = example('reactors-cost.csv').replace(b'counter-current,,,,exchanger', b'1-2,0.9,,,shell')
+    found = network_costs(case, example('reactors-cost-network.txt'), pinch)
+    assert [priced.exchanger.shells for priced in found.prices] == [1, 3, 3, 5, 1, 1, 1]
+    gains = {priced.exchanger.name: priced.gain for priced in found.costliest}
+    assert min(gain.low for gain in gains.values() if gain) > 0 and gains['E4'] and near(gains['E4'], '37413')
 
 
 # What a case says of pairs and of segments.

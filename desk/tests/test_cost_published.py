@@ -32,6 +32,13 @@ def test_two_reactors_as_in_smith_2005(pinch: Pinch) -> None:
     assert found.cost.energy == 1_000_000
 
 
+def test_two_reactors_in_1_2_shells(pinch: Pinch) -> None:
+    """As the guide has it; by a second program 9,608.947 m² and 10.62 and 6.65 shells on the sides of the pinch."""
+    shells = targets(REACTORS.replace('counter-current,,,,exchanger', '1-2,0.9,,,shell'), pinch).shells
+    assert shells and shells.shells == 18 and near(shells.area, '9608.95')
+    assert [near(count, number) for count, number in zip(shells.regions, ('10.62', '6.65'))] == [True, True]
+
+
 @pytest.fixture(scope='module')
 def reactors(pinch: Pinch) -> Supertarget:
     return supertarget(REACTORS, 10, 70, 10, pinch)

@@ -197,14 +197,15 @@ class PartOfArea:
         return self.heat / (self.coefficient * self.mean)
 
 
-def exchanger_area(data: CostData, passage: Passage, warmer: int = 0) -> ExchangerArea:
-    """An exchanger with its area. `warmer` is by how many K both differences are taken larger."""
+def exchanger_area(data: CostData, passage: Passage, warmer: int = 0, at_least: int = 1) -> ExchangerArea:
+    """An exchanger with its area. `warmer` is by how many K both differences are taken larger, `at_least` how many 1-2
+    shells it has at least."""
     name, service = passage.exchanger.name, service_of(data, passage)
     parts = [part_of_area(data, name, part, duty, warmer)
              for part, duty in zip(passage.parts, part_duties(data, passage))]
     build = data.build(service)
     if build.flow is Flow.ONE_TWO:
-        shells, factors = in_series(build, name, parts)
+        shells, factors = in_series(build, name, parts, at_least)
     else:
         shells, factors = at_most(build, total(part.counter_current for part in parts)), [enclosed(1)] * len(parts)
     heat, area = sum((part.heat for part in parts), Fraction(0)), area_with(parts, factors)
@@ -236,10 +237,11 @@ def area_with(parts: Sequence[PartOfArea], factors: Sequence[Enclosure]) -> Encl
     return total(part.counter_current / factor for part, factor in zip(parts, factors))
 
 
-def in_series(build: Build, name: str, parts: Sequence[PartOfArea]) -> tuple[int, Sequence[Enclosure]]:
+def in_series(build: Build, name: str, parts: Sequence[PartOfArea],
+              at_least: int) -> tuple[int, Sequence[Enclosure]]:
     """The least number of 1-2 shells in series of which none is larger than the most, with Ft of each part."""
     assert build.part is not None
-    shells = whole_shells(total(shells_of(part.ends, build.part) for part in parts))
+    shells = max(at_least, whole_shells(total(shells_of(part.ends, build.part) for part in parts)))
     factors = corrections([part.ends for part in parts], build.part, shells) if shells <= MOST_SHELLS else None
     if factors is None:
         raise refused_exchanger(name, f'{shells} shells of 1-2 flow cannot do its duty: build it counter-current by a '

@@ -7,6 +7,7 @@ from dataclasses import dataclass
 
 from ..analysis.follow import Passage
 from ..formats.case import Case, completed, read_case
+from ..formats.cost_rows import Flow
 from ..program.run import CaseText, NetworkText, Pinch
 from ..program.verdicts import Accepted
 from .annual import AnnualCost, annual_cost, price_of, priced_parts
@@ -61,7 +62,7 @@ def costs_of(areas: NetworkAreas, passages: Sequence[Passage]) -> NetworkCosts:
     data = areas.data
     prices = [price_in(data, passage, exchanger) for passage, exchanger in zip(passages, areas.exchangers)]
     costliest = sorted(range(len(prices)), key=lambda at: -prices[at].middle)[:COSTLIEST]
-    gains = {at: gain_of(data, passages[at], prices[at]) for at in costliest}
+    gains = {at: gain_of(data, passages[at], areas.exchangers[at], prices[at]) for at in costliest}
     priced = tuple(ExchangerPrice(exchanger, price, gains.get(at))
                    for at, (exchanger, price) in enumerate(zip(areas.exchangers, prices)))
     return NetworkCosts(areas, priced, annual_cost(data, total(prices), areas.verdict.cost))
@@ -85,7 +86,11 @@ def price_in(data: CostData, passage: Passage, exchanger: ExchangerArea) -> Encl
     return price_of(data, law, exchanger.area, parts)
 
 
-def gain_of(data: CostData, passage: Passage, price: Enclosure) -> Enclosure:
-    """By how much the cost of a year would fall with 1 K more at both ends."""
-    wider = exchanger_area(data, passage, 1)
-    return (price - price_in(data, passage, wider)) * data.annual_factor
+def gain_of(data: CostData, passage: Passage, now: ExchangerArea, price: Enclosure) -> Enclosure:
+    """By how much the cost of a year would fall with 1 K more at both ends. Where fewer 1-2 shells would be enough
+    then, it keeps those that it has if that is cheaper: fewer have a lower Ft."""
+    wider = [exchanger_area(data, passage, 1)]
+    if wider[0].shells < now.shells and data.build(now.service).flow is Flow.ONE_TWO:
+        wider.append(exchanger_area(data, passage, 1, now.shells))
+    cheapest = min((price_in(data, passage, exchanger) for exchanger in wider), key=lambda other: other.middle)
+    return (price - cheapest) * data.annual_factor
