@@ -15,10 +15,13 @@ from pinchdesk.search.budget import SearchWay
 from pinchdesk.search.find import tight_of
 from pinchdesk.search.reduce.going_on import NO_KINKS, kinks_of
 from pinchdesk.search.reduce.network_structure import structure_of
+from pinchdesk.search.reduce.structure import Lane, Parting, Through
+from pinchdesk.search.reduce.widen import pairs_of
 from pinchdesk.search.search_state import each_stream_has_one
 from pinchdesk.search.solver.linear import solve
 from pinchdesk.search.staged.transshipment import transshipment
 from pinchdesk.search.staged.windows import whole, windows
+from pinchdesk.search.ticking.prolonging import next_to, parts_of, with_part
 from pinchdesk.search.ticking.thinning import Thinned
 from pinchdesk.search.wishes import cut_case
 
@@ -96,3 +99,27 @@ def test_where_nothing_goes_through_a_cut_segments_are_one_in_a_window(pinch: Pi
     names = {stream.name for stream in cut.streams}
     assert {name for stream in cut.basis.segments for name in stream.segments} <= names
     assert all(one.split('~')[1] == other.split('~')[1] for one, other in kinks_of(cut).kinks)
+
+
+def test_an_exchanger_at_a_kink_gets_a_part_behind_it() -> None:
+    case, network = read(FEED, FEED_NETWORK.replace('exchanger E2 H FEED-2 60000', 'exchanger E2 K FEED-2 60000')
+                         .replace('pass e E2 f\npass f E3 g\npass g E5 h\nend h', 'pass e E3 f\npass f E5 h\nend h')
+                         .replace('pass K E4 k', 'pass K E2 j\npass j E4 k'))
+    structure, kinks = structure_of(case, network), kinks_of(case)
+    assert kinks.count(structure) == 6
+    parts = list(parts_of(kinks, structure))
+    wanted = {('E1', 'FEED-2'), ('E2', 'FEED-3'), ('E2', 'FEED-1'), ('E3', 'FEED-2')}
+    assert {(part.exchanger, part.segment) for part in parts} == wanted
+    for part in parts:
+        made = with_part(case, kinks, structure, part, pairs_of(case))
+        assert made is not None and kinks.count(made) == 6 and len(made.pairs) == 7
+    assert with_part(case, kinks, structure, parts[0], ()) is None
+
+
+def test_what_goes_on_on_its_other_side_stands_next_to_the_exchanger() -> None:
+    lanes = (Lane((Through('E1'), Through('E2')), Fraction(1, 2)), Lane((Through('E3'),), Fraction(1, 2)))
+    assert next_to((Through('E0'), Through('E1')), 'E0', 'X', True) == (Through('E0'), Through('X'), Through('E1'))
+    beside = next_to((Parting(lanes),), 'E2', 'X', False)
+    assert beside == (Parting((Lane((Through('E1'), Through('X'), Through('E2')), Fraction(1, 2)), lanes[1])),)
+    flat = (Parting((Lane((Through('E1'),), Fraction(1, 2)), lanes[1]), True),)
+    assert next_to(flat, 'E1', 'X', True) is None and next_to(flat, 'E9', 'X', True) is None

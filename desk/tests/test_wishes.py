@@ -15,9 +15,11 @@ from pinchdesk.formats.case import Case, Side
 from pinchdesk.program.answers import Design
 from pinchdesk.search.accepted import AcceptedNetwork, Judge, accepted_network, uneven_mixes
 from pinchdesk.search.budget import SearchWay
+from pinchdesk.search.child import Gone
 from pinchdesk.search.find import FewExchangers, NoNetwork, tight_of
 from pinchdesk.search.finishing import evened, finished
 from pinchdesk.search.staged.windows import cuts_between, windows
+from pinchdesk.search.tasks import SearchProcess
 from pinchdesk.search.wishes import Wishes, crossing, cut_case, splits_of
 
 STEPS = SearchWay(steps=24, workers=1)
@@ -97,6 +99,27 @@ def test_what_stays_has_its_streams_and_its_duty(pinch: Pinch) -> None:
     found = wished(pinch, 'tc3', Wishes(keep=('E1', 'E3')), above=20, start=start)
     assert all(exchanger in found.network.exchangers for exchanger in kept)
     assert found.exchangers <= len(read_network(start).exchangers)
+
+
+def test_a_network_to_begin_with_that_cannot_be_given_is_told(pinch: Pinch) -> None:
+    case = 'contribution,,50,,,,\nhot,H,2000,1000,10,,\nhot,K,2000,1000,10,,\ncold,C,900,1700,20,,\n'
+    few = SearchWay(steps=2, workers=1)
+    dear = ('exchanger E1 HOT C 16000\nexchanger E2 H COLD 10000\nexchanger E3 K COLD 10000\npass H E2 .h\nend .h\n'
+            'pass K E3 .k\nend .k\npass C E1 .c\nend .c\n')
+    found = find_network(case, start=dear, pinch=pinch, way=few)
+    assert found.left_aside == 'it costs more than the network may cost'
+    assert 'the network to begin with was left aside: it costs more than the network may cost' in found.remarks()
+
+
+def test_a_search_that_is_broken_off_is_told_and_not_the_same_again(
+        pinch: Pinch, monkeypatch: pytest.MonkeyPatch) -> None:
+    def gone(process: SearchProcess, until: float) -> object:
+        raise Gone
+    started = SearchProcess.message
+    first = iter([started])
+    monkeypatch.setattr(SearchProcess, 'message', lambda process, until: next(first, gone)(process, until))
+    found = find_network(example('tc3.csv'), pinch=pinch, way=SearchWay(steps=5, workers=1))
+    assert found.ended == 'the process of the search was ended on the way' and not found.libraries
 
 
 def test_what_stays_is_named_of_a_network(pinch: Pinch) -> None:

@@ -54,7 +54,8 @@ class AllStarts:
         if self.task.way.steps is None:
             if is_tiny and self.task.wishes == NO_WISHES:
                 Bounding(self.task, TINY_BOUND, self.hear).run()
-                self.stage(STAGED)
+                patience = inf if self.task.way.no_better is None else self.task.way.no_better
+                self.stage(min(self.task.seconds * STAGED, time.monotonic() - self.task.begun + patience))
             else:
                 Thread(target=self.beside, daemon=True).start()
         ended = TO_THE_END if self.enough() else self.tick(is_tiny)
@@ -87,10 +88,10 @@ class AllStarts:
     def take(self, found: AcceptedNetwork) -> None:
         self.hear(SearchState(found))
 
-    def stage(self, part: float = 1.0) -> None:
-        """The staged model, for a part of the time."""
+    def stage(self, until: float) -> None:
+        """The staged model, for so many seconds from the beginning."""
         task = self.task
-        effort = Effort(task.seconds * part, task.begun)
+        effort = Effort(until, task.begun)
         Search(self.judge.pinch, task.case, task.floor, task.most_cost, effort, task.best, self.state.bound,
                self.hear).run(task.uses)
 
@@ -100,7 +101,7 @@ class AllStarts:
         self.found.wait(self.task.seconds * WAITING)
         Bounding(self.task, BOUND, self.hear).run()
         if self.largest <= SMALL and self.task.wishes == NO_WISHES and not self.enough():
-            self.stage()
+            self.stage(self.task.seconds)
 
     def tick(self, is_tiny: bool) -> str:
         """Windows ticked off, for the rest of the time or for so many steps; why that ended."""

@@ -50,7 +50,8 @@ class FewExchangers:
     and `proved` and `proved_of_uses` are as much of both as is proved in fractions. `basis` is that of the case;
     `exchangers` are those of the plant, of which one that goes on across the kink of a stream is one; `annual` is what
     is said of the cost of a year where the network was chosen by it; `range_costs` are what its utilities with a range
-    cost, which are in no cost of the program."""
+    cost, which are in no cost of the program; `left_aside` is why the network to begin with could not be one, where it
+    could not."""
 
     network: Network
     verdict: Accepted
@@ -67,6 +68,7 @@ class FewExchangers:
     proved: int = 0
     proved_of_uses: int = 0
     range_costs: tuple[tuple[str, int], ...] = ()
+    left_aside: str = ''
 
     @property
     def text(self) -> str:
@@ -91,7 +93,7 @@ class FewExchangers:
     def remarks(self) -> list[str]:
         """What is said beside the network: which exchangers are large by their approach, and what a search by steps
         used."""
-        told = []
+        told = [f'the network to begin with was left aside: {self.left_aside}'] if self.left_aside else []
         if self.tight:
             names, works = ', '.join(self.tight), 'works' if len(self.tight) == 1 else 'work'
             told.append(f'{names} {works} at the least approach from end to end, which needs a large area')
@@ -167,7 +169,16 @@ def find_network(case: CaseText, most_cost: Fraction | int | None = None, above:
                 ended = BROKEN_OFF
         except KeyboardInterrupt:
             ended = INTERRUPTED
-    return found_in(task, state, state.ended or ended)
+    found = found_in(task, state, state.ended or ended)
+    return replace(found, left_aside=left_aside(task, begins))
+
+
+def left_aside(task: NetworkTask, begins: AcceptedNetwork | None) -> str:
+    """Why a network to begin with is none that may be given; empty where it may be."""
+    if begins is None or task.is_within(begins):
+        return ''
+    return 'it costs more than the network may cost' if begins.cost > task.most_cost else \
+        f'it is no network with {task.wishes.told}'
 
 
 def flow_of(pinch: Pinch, case: CaseText) -> HeatFlow:

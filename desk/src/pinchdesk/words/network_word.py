@@ -71,7 +71,8 @@ class NetworkOptions(CaseShown):
         """What the network has to be; `WordsError` where a number or a name is none."""
         if self.most_splits is not None and not 0 <= self.most_splits <= ANY_SPLITS:
             raise WordsError(f'--most-splits {self.most_splits}: a whole number from 0 to {ANY_SPLITS} is needed')
-        names = () if self.keep is None else tuple(name.strip() for name in self.keep.split(','))
+        # An exchanger across a kink is shown as `E1+E2`, by the names of its parts.
+        names = () if self.keep is None else tuple(name.strip() for name in self.keep.replace('+', ',').split(','))
         if not all(names):
             raise WordsError(f'--keep {self.keep}: the names of exchangers are needed, with commas between them')
         return Wishes(0 if self.no_splits else self.most_splits, not self.forbid_crossing, names)

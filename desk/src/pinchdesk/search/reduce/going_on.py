@@ -42,7 +42,10 @@ class Kinks:
                 yield last.exchanger, first.exchanger
 
     def from_hot_end(self, name: str, course: Course) -> Course:
-        return course[::-1] if name in self.colds else course
+        return course[::-1] if self.is_cold(name) else course
+
+    def is_cold(self, name: str) -> bool:
+        return name in self.colds
 
     def following(self, name: str, course: Course) -> dict[str, str]:
         """The exchanger right behind another one in the same lane."""

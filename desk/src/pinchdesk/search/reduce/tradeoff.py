@@ -101,6 +101,7 @@ def tradeoff(case: CaseText, network: NetworkText | None = None, pinch: Pinch | 
         try:
             for message in process.told(task, begun + seconds + GRACE):
                 found.take(message, tell)
+            found.stopped = process.is_gone
         except KeyboardInterrupt:
             found.stopped = True
     return found.traded(judge, flow.cost)

@@ -13,10 +13,12 @@ from random import Random
 import numpy
 
 from ...formats.case import Case
+from ..reduce.going_on import NO_KINKS, Kinks
 from ..reduce.moves import structures, unsplit
 from ..reduce.structure import Structure, splits
 from ..reduce.widen import Pair, with_more
 from .float_duties import Floats
+from .prolonging import prolonged
 from .thinning import HALF, Aim, Thinned, thinned_once, weights_of
 
 # How many exchangers are put in, at least and at most; how many of them around one that is to go; what its weight is
@@ -26,12 +28,14 @@ MORE, AROUND, HEAVY, AGAIN = (3, 16), 0.7, 8.0, 2
 
 @dataclass(frozen=True)
 class Growing:
-    """What is bettered, with the pairs that may be put in, and how many splits there may be."""
+    """What is bettered, with the pairs that may be put in, how many splits there may be, and the kinks at which
+    exchangers may go on."""
 
     case: Case
     pairs: Sequence[Pair]
     most_cost: Fraction
     most_splits: int | None = None
+    kinks: Kinks = NO_KINKS
 
     def start(self, structure: Structure, random: Random) -> Thinned | None:
         return thinned_once(self.case, structure, self.most_cost,
@@ -45,7 +49,12 @@ class Growing:
         picked = list(self.picked(now.structure.pairs[names[leaving]], random.randint(*MORE), random))
         wide = with_more(self.case, self.less_split(now.structure, random), picked, random,
                          self.most_splits is None or splits(now.structure) < self.most_splits)
-        found = thinned_once(self.case, wide, self.most_cost, weights_with(now, leaving, len(picked), random))
+        wide, wholes = prolonged(self.case, self.kinks, wide, self.pairs, random)
+        weights = weights_with(now, leaving, len(picked), random)
+        places = {name: at for at, name in enumerate(wide.pairs)}
+        # A part of an exchanger has its weight.
+        parts = weights[[places[name] for name in wholes]] * random.random()
+        found = thinned_once(self.case, wide, self.most_cost, numpy.concatenate([weights, parts]))
         for _ in range(AGAIN):
             if found is None or found.count < now.count:
                 break

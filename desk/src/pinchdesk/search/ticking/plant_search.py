@@ -125,7 +125,7 @@ class PlantSearch:
         self.pays = most_cost > sum(utility.price * uses[utility.name] for utility in judge.case.utilities)
         self.parts = windows(judge.case, uses)
         self.is_large = max(len(part.pieces) for part in self.parts) > LARGE
-        self.growing = Growing(judge.case, pairs_of(judge.case), most_cost, judge.wishes.most_splits)
+        self.growing = Growing(judge.case, pairs_of(judge.case), most_cost, judge.wishes.most_splits, self.aim.kinks)
         self.pools = [WindowPool(part, [Chain()] * count) for part, count in zip(self.parts, chains_of(self.parts))]
         # Structures whose exchangers may go together, the latest last, and those that were looked at.
         self.candidates: list[Structure] = []
