@@ -195,8 +195,9 @@ class LivePage:
     def press(self, *keys: str) -> None:
         ActionChains(self.driver).send_keys(*keys).perform()
 
-    def undo(self) -> None:
-        ActionChains(self.driver).key_down(Keys.CONTROL).send_keys('z').key_up(Keys.CONTROL).perform()
+    def undo(self, key: str = 'z') -> None:
+        """Ctrl+Z, or Ctrl+Y."""
+        ActionChains(self.driver).key_down(Keys.CONTROL).send_keys(key).key_up(Keys.CONTROL).perform()
 
     def focused(self) -> str:
         """What has the focus: its key."""

@@ -113,7 +113,7 @@ def test_a_walk_of_gestures_keeps_what_holds(name: str, data: some.DataObject) -
 def done(plan: HandPlan, kind: str, whole: Whole, data: some.DataObject) -> tuple[HandPlan, tuple[str, ...], bool]:
     """One gesture, whom it names, and whether it is a shift."""
     if kind == 'shift':
-        ways = [ranged for ranged in ways_of(plan) if ranged.most]
+        ways = [ranged for ranged in ways_of(plan).ways if ranged.most]
         if not ways:
             raise NotDone('no way')
         ranged = data.draw(some.sampled_from(ways))
@@ -156,7 +156,7 @@ def done(plan: HandPlan, kind: str, whole: Whole, data: some.DataObject) -> tupl
 def test_both_ends_of_each_range_are_accepted_and_no_more(name: str) -> None:
     plan, _ = network_of(name)
     _, content = whole_of(name)
-    for ranged in ways_of(plan):
+    for ranged in ways_of(plan).ways:
         if ranged.least is None or ranged.most is None:
             continue
         for heat in {ranged.most, (ranged.least + ranged.most) / 2}:
@@ -168,10 +168,10 @@ def test_both_ends_of_each_range_are_accepted_and_no_more(name: str) -> None:
 def test_a_path_that_mends_says_from_which_heat_on() -> None:
     plan, layout = network_of('tc3')
     _, content = whole_of('tc3')
-    loop = next(ranged for ranged in ways_of(plan) if ranged.goes == 'E4')
+    loop = next(ranged for ranged in ways_of(plan).ways if ranged.way.loop and ranged.goes == 'E4')
     broken = shift(plan, loop.identity, plan.duties['E4'])
     assert 'E4' not in broken.pairs and not placed_is_right(broken, content)
-    mending = [ranged for ranged in ways_of(broken) if ranged.mends]
+    mending = [ranged for ranged in ways_of(broken).ways if ranged.mends]
     ends = [(Fraction(4000), Fraction(140_000)), (Fraction(20_000), Fraction(20_000))]
     assert [(ranged.least, ranged.most) for ranged in mending] == ends
     assert not placed_is_right(shift(broken, mending[0].identity, Fraction(3999)), content)

@@ -23,8 +23,9 @@ from .offers import moves_of, offers_of
 from .network_view import Standing, judgement_of
 from .own_files import ChangedOutside, OwnFile
 from .seen import seen, slid
-from .view import FileNames, Mark, Offer, Refusal, Slider, StepKept, StepMade, TradeoffTable, View, WayOffer
-from .ways import told_ways, ways_of
+from .view import FileNames, Mark, Offer, Refusal, Slider, StepKept, StepMade, TradeoffTable, View, WaysFound
+from .way_words import Outdated, WayWords
+from .ways import ways_of
 
 MOST_STEPS, MOST_VIEWS, LONGEST_SEARCH = 500, 50, 300
 EMPTY_CASE = 'contribution,,50,,,,\n'
@@ -246,13 +247,19 @@ class Bench:
         except NotDone as fault:
             return GestureDone(self.view(), Refusal(str(fault)))
 
-    def ways(self, version: object) -> tuple[WayOffer, ...] | GestureDone:
-        """The loops and paths of what the page saw."""
+    def ways(self, version: object, exchanger: str | None = None) -> WaysFound | GestureDone:
+        """The loops and paths of what the page saw; of too many those through an exchanger."""
         with self.lock:
             if version != self.version:
                 return GestureDone(self.shown(), stale=True)
             known = self.now
-        return told_ways(known.plan, ways_of(known.plan)) if known.plan else ()
+        if known.plan is None:
+            return WaysFound((), '')
+        words = WayWords(self.knowing.pinch, known.plan, known.reach, lambda: version == self.version)
+        try:
+            return words.told(ways_of(known.plan, exchanger))
+        except Outdated:
+            return GestureDone(self.view(), stale=True)
 
     def network_at(self, known: Known, whole: Whole, case: str) -> str:
         """What the network would be with another least approach, in words: as much of it as an audit says."""

@@ -4,18 +4,16 @@ from __future__ import annotations
 from dataclasses import dataclass, field
 from fractions import Fraction
 
-from ..analysis.findings import REASONS
 from ..formats.case import Side
 from ..formats.range_parts import cost_of_ranges, range_costs
 from ..formats.shown import Shown
 from ..program.verdicts import Accepted, Place, PlaceKind, Rejected, TooFine, Verdict
 from .areas import Areas
+from .faults import rejection_told
 from .grid_view import Lines, place_of
 from .judgement import Reachable, Stand, Whole, count_placed, money
 from .pieces import HandPlan
-from .view import ExchangerRow, Judgement, Mark, ScoreView
-
-KINDS = {PlaceKind.EXCHANGER: 'exchanger', PlaceKind.STREAM: 'stream', PlaceKind.UTILITY: 'utility'}
+from .view import ExchangerRow, Judgement, ScoreView
 
 
 @dataclass(frozen=True)
@@ -42,7 +40,7 @@ def judgement_of(standing: Standing) -> Judgement:
         return Judgement('nothing-placed', 'Nothing placed',
                          f'The targets are {hot} {unit} of hot and {cold} {unit} of cold utility.')
     if isinstance(stand.placed, Rejected):
-        return Judgement('rejected', 'Rejected', sentence_of(stand.placed, shown), marks_of(stand.placed))
+        return Judgement('rejected', 'Rejected', *rejection_told(stand, plan, stand.placed))
     if isinstance(stand.placed, TooFine):
         return Judgement('faulty', 'Too fine', 'A number has more digits than can be judged: choose rounder duties or '
                          'shares.')
@@ -68,39 +66,6 @@ def reach_told(standing: Standing, shown: Shown) -> str:
         return 'The target can still be reached.'
     return f'{most}{shown.heat(reach.most)} {shown.heat_unit} of hot utility can still be reached: ' \
            f'{most}{shown.heat(above)} above the target.'
-
-
-def sentence_of(rejected: Rejected, shown: Shown) -> str:
-    """Why a network is rejected, in the units of the case."""
-    place = rejected.place
-    found, wanted = (told_number(rejected.reason, number, shown) for number in (rejected.found, rejected.wanted))
-    words = REASONS.get(rejected.reason, rejected.reason).format(found=found, wanted=wanted)
-    if place.kind is PlaceKind.EXCHANGER:
-        return f'{place.name}: {words}' if rejected.reason == 'Forbidden' else f'{place.name} is {words}'
-    return f'{place}: {words}'
-
-
-def told_number(reason: str, number: Fraction | None, shown: Shown) -> str:
-    if number is None:
-        return ''
-    if reason in ('HotEndApproach', 'ColdEndApproach', 'MissedTarget'):
-        return f'{shown.temperature(number, 3)} {shown.temperature_unit}'
-    if reason == 'UtilityRange':
-        return f'{shown.heat(number)} {shown.heat_unit}'
-    return f'{shown.flow(number)} {shown.units.flow}'
-
-
-def marks_of(rejected: Rejected) -> tuple[Mark, ...]:
-    kind = KINDS.get(rejected.place.kind)
-    return (Mark(kind, rejected.place.name),) if kind and rejected.place.name else ()
-
-
-def faults_of(stand: Stand, plan: HandPlan) -> dict[str, str]:
-    """What is wrong at exchangers, by their names."""
-    verdict, shown = stand.placed, Shown(plan.case.basis)
-    if isinstance(verdict, Rejected) and verdict.place.kind is PlaceKind.EXCHANGER:
-        return {verdict.place.name: sentence_of(verdict, shown)}
-    return {}
 
 
 def score_of(standing: Standing) -> ScoreView:

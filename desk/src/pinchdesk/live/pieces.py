@@ -138,6 +138,11 @@ class HandPlan:
         """The differences of all that stands."""
         return {name: self.differences(name) for name in self.placed}
 
+    @property
+    def too_close(self) -> list[str]:
+        """What stands and does not keep its least difference."""
+        return [name for name, ends in self.all_differences.items() if min(ends) < self.approach(name)]
+
     def differences(self, name: str) -> tuple[Fraction, Fraction]:
         """The differences at the hot and at the cold end."""
         hot_in, hot_out = self.ends(name, Side.HOT)

@@ -7,12 +7,13 @@ from ..program.answers import Targets
 from ..program.verdicts import Accepted, Rejected
 from .areas import Areas
 from .case_view import (curve_picture, difference_of, forbid_rows, pinch_marks, stream_rows, unit_names, utility_rows)
+from .faults import faults_of, marks_of, sentence_of
 from .grid_view import Lines, grid_picture, laid_out
 from .gestures import NotDone
 from .judgement import Whole
 from .known import Known
 from .mending import mended
-from .network_view import exchanger_rows, faults_of, judgement_of, marks_of, score_of, sentence_of
+from .network_view import exchanger_rows, judgement_of, score_of
 from .other_words import links
 from .view import Difference, FileNames, Judgement, ScoreView, Slider, Texts, UnitNames, View
 

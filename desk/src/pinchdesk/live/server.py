@@ -26,7 +26,7 @@ from .asked import LONGEST_STEP, Made
 from .bench import Bench, GestureDone
 from .guard import HEADERS, HOST, OF_REPORT, Guard, Scope, fresh_token
 from .known import Snapshot
-from .view import Refusal, Slider, TradeoffTable, View
+from .view import Refusal, Slider, TradeoffTable, View, WaysFound
 
 PAGE = Path(__file__).resolve().parent / 'page'
 KINDS = {'.html': 'text/html', '.css': 'text/css',
@@ -160,7 +160,10 @@ class LiveDesk:
         if path == 'moves' and isinstance(asked.get('exchanger'), str):
             return listed('offers', await run_in_threadpool(self.bench.moves, version, asked['exchanger']))
         if path == 'ways':
-            return listed('ways', await run_in_threadpool(self.bench.ways, version))
+            exchanger = asked.get('exchanger')
+            through = exchanger if isinstance(exchanger, str) else None
+            ways = await run_in_threadpool(self.bench.ways, version, through)
+            return answer(ways) if isinstance(ways, WaysFound) else told(ways)
         if path == 'slider' and isinstance(asked.get('difference'), str):
             found = await run_in_threadpool(self.bench.slider, version, asked['difference'])
             return answer(found) if isinstance(found, Slider) else told(found)

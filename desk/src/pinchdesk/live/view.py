@@ -12,7 +12,8 @@ What the page asks, below `/TOKEN/`:
   the present one is answered by 409 with `{"view": View}`.
 - `POST offers {"version": n, "piece": id}` answers `{"offers": [Offer, ..]}`, the best first; a drop on a partner takes
   the first offer with this `partner`, and the page sends its `gesture` as it is. The same for 409.
-- `POST ways {"version": n}` answers `{"ways": [Way, ..]}`, those that mend first.
+- `POST ways {"version": n, "exchanger"?: name}` answers a `WaysFound`; of too many ways it is those through the
+  exchanger. The same for 409.
 - `POST slider {"version": n, "difference": text}` answers a `Slider`, or `{"refused": Refusal}`; nothing is written.
 - `POST search {"version": n, "seconds"?: text, "above"?: text}` searches a network of few exchangers for so long (10
   unless said), at most so many percent above the least cost, from the present one where that is accepted; it answers as
@@ -445,8 +446,9 @@ class WayLeg:
 @dataclass(frozen=True)
 class WayOffer:
     """A loop or a path (`kind`). `text` is the way in words. Heat from `least` to `most` can be moved, both empty where
-    none can; `ends` says what stops it at the upper end. `mends` names the exchangers that are right then. `breaks`
-    reads `E4 goes (20 kW)`, else it is empty. `first` is the heat that is proposed."""
+    none can; `ends` says what stops it at the upper end. `mends` names the exchangers and utilities that are right
+    then, `leaves` those that are wrong then as now. `breaks` reads `E4 goes (20 kW), costs nothing`, else it is empty.
+    `first` is the heat that is proposed, where it mends or saves something; `cost` is what moving costs."""
 
     id: str
     kind: str
@@ -456,8 +458,19 @@ class WayOffer:
     most: str
     ends: str
     mends: tuple[str, ...]
+    leaves: tuple[str, ...]
     breaks: str
     first: str
+    cost: str
+
+
+@dataclass(frozen=True)
+class WaysFound:
+    """Loops and paths, those that mend first. `more` says which ones these are where there are more, else it is
+    empty."""
+
+    ways: tuple[WayOffer, ...]
+    more: str
 
 
 @dataclass(frozen=True)

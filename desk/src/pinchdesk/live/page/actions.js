@@ -5,7 +5,6 @@ import { Lost } from './talk.js';
 /** @typedef {import('./contract.js').Gesture} Gesture */
 /** @typedef {import('./contract.js').Offer} Offer */
 /** @typedef {import('./contract.js').View} View */
-/** @typedef {import('./contract.js').WayOffer} WayOffer */
 /** @typedef {import('./state.js').Chosen} Chosen */
 /** @typedef {import('./state.js').Store} Store */
 /** @typedef {import('./talk.js').Talk} Talk */
@@ -30,6 +29,8 @@ export class Actions {
     this.sliding = false;
     this.searching = false;
     this.waiting = 0;
+    /** @type {string | null} the exchanger that was chosen when loops and paths were asked for */
+    this.waysThrough = null;
     /** @type {Promise<Offer[]> | null} */
     this.asked = null;
     this.askedAt = '';
@@ -168,6 +169,7 @@ export class Actions {
     if (chosen && before && chosen.kind === before.kind && chosen.name === before.name) return;
     this.store.set({ chosen, moves: null, partners: [], refusal: null });
     if (chosen && chosen.kind === 'piece') this.offer(chosen.name);
+    if (chosen && chosen.kind === 'exchanger' && this.state.ways.more) this.findWays();
   }
 
   /**
@@ -264,10 +266,12 @@ export class Actions {
   }
 
   async findWays() {
-    const version = this.state.view.version;
+    const { chosen, view: { version } } = this.state, through = chosen?.kind === 'exchanger' ? chosen.name : null;
+    this.waysThrough = through;
     try {
-      const ways = await this.talk.ways(version);
-      if (ways && this.state.view.version === version) this.store.set({ ways, waysAsked: false, way: null });
+      const ways = await this.talk.ways(version, through);
+      const wanted = this.state.view.version === version && this.waysThrough === through;
+      if (ways && wanted) this.store.set({ ways, waysAsked: false, way: null });
     } catch (cause) {
       this.failed(cause);
     }

@@ -1,6 +1,6 @@
 // The panel of what is chosen in the diagram: the partners of an open piece, an exchanger, a parting.
 
-import { fill, keyed, make } from './dom.js';
+import { asks, fill, keyed, make } from './dom.js';
 import { partnersOf } from './grid_marks.js';
 import { changed } from './state.js';
 
@@ -107,7 +107,8 @@ export class ChosenPart {
       make('form', {
         class: 'tools', submit: (/** @type {Event} */ event) => {
           event.preventDefault();
-          this.actions.do({ kind: 'shares', joint: joint.id, shares: fields.map(field => field.value) });
+          const gesture = { kind: 'shares', joint: joint.id, shares: fields.map(field => field.value) };
+          asks(fields, () => this.actions.do(gesture));
         },
       }, ...fields.flatMap(field => [field, ' % ']),
       make('button', { 'data-key': 'keep shares' }, 'keep these shares')),
@@ -189,7 +190,7 @@ function splitForm(piece, actions) {
   return make('form', {
     submit: (/** @type {Event} */ event) => {
       event.preventDefault();
-      actions.do({ kind: 'split', piece: piece.id, share: share.value });
+      asks([share], () => actions.do({ kind: 'split', piece: piece.id, share: share.value }));
     },
   }, make('button', { 'data-key': 'split' }, 'split here'), ' ', share, ' %');
 }
@@ -232,7 +233,7 @@ function dutyForm(name, duty, view, actions) {
   return make('form', {
     class: 'tools', submit: (/** @type {Event} */ event) => {
       event.preventDefault();
-      actions.do({ kind: 'duty', exchanger: name, heat: field.value });
+      asks([field], () => actions.do({ kind: 'duty', exchanger: name, heat: field.value }));
     },
   }, field, ` ${view.units.heat} `,
   make('button', { type: 'button', 'data-key': 'grow', click: () => actions.do({ kind: 'grow', exchanger: name }) },
@@ -306,7 +307,7 @@ function otherForms(name, kind, view, actions) {
     make('form', {
       submit: (/** @type {Event} */ event) => {
         event.preventDefault();
-        actions.do({ kind: 'rename', exchanger: name, name: field.value });
+        asks([field], () => actions.do({ kind: 'rename', exchanger: name, name: field.value }));
       },
     }, field, ' ', make('button', { 'data-key': 'rename' }, 'rename')));
 }

@@ -320,8 +320,16 @@
  * @property {string} most
  * @property {string} ends
  * @property {string[]} mends
+ * @property {string[]} leaves
  * @property {string} breaks
  * @property {string} first
+ * @property {string} cost
+ */
+
+/**
+ * @typedef {object} WaysFound
+ * @property {WayOffer[]} ways
+ * @property {string} more
  */
 
 /**

@@ -95,7 +95,7 @@ export class CurvesPart {
     this.slider.step = String(difference.step);
     if (!slider) {
       this.slider.value = String(difference.value);
-      this.field.value = difference.text;
+      this.field.value = this.field.defaultValue = difference.text;
     }
     this.unit.textContent = view.units.difference;
     const { target_hot: hot, target_cold: cold } = slider ?? view.score;

@@ -70,6 +70,33 @@ function isField(element) {
 }
 
 /**
+ * Whether a text was typed here that nothing was asked with yet.
+ * @param {EventTarget | null} element
+ * @returns {element is Field}
+ */
+export function hasTyped(element) {
+  return element instanceof Element && isField(element) && element.type !== 'range'
+    && element.value !== element.defaultValue && element.value !== element.dataset.sent;
+}
+
+/**
+ * Asks with what is typed in some fields, once. Where it is refused it stays there, marked; else nothing of it is left.
+ * @param {Field[]} fields
+ * @param {() => Promise<boolean>} question gives whether it was done
+ */
+export async function asks(fields, question) {
+  if (fields.some(field => field.dataset.sent !== undefined)) return false;
+  for (const field of fields) field.dataset.sent = field.value;
+  const done = await question();
+  for (const field of done ? [] : fields) {
+    delete field.dataset.sent;
+    field.setAttribute('aria-invalid', 'true');
+    field.addEventListener('input', () => field.removeAttribute('aria-invalid'), { once: true });
+  }
+  return done;
+}
+
+/**
  * Puts new children into a part. What had the focus has it again where it still is (by its `data-key`), with what was
  * being typed and where; else the first control of the part has it, or the diagram, so that no key goes nowhere.
  * @param {Element} parent
@@ -79,7 +106,7 @@ export function fill(parent, ...children) {
   const focused = document.activeElement;
   const inside = focused !== null && parent.contains(focused);
   const key = inside ? focused.getAttribute('data-key') : null;
-  const typed = isField(focused) && focused.value !== focused.defaultValue ? focused.value : null;
+  const typed = hasTyped(focused) ? focused.value : null;
   const range = isField(focused) && focused.type !== 'range' ? [focused.selectionStart, focused.selectionEnd] : null;
   parent.replaceChildren(...children.flatMap(child => child ? [child] : []));
   if (!inside) return;

@@ -16,7 +16,8 @@ const KEYS = [
   ['s', 'on an open piece: splits the stream'],
   ['g', 'goes to loops and paths'],
   ['Esc', 'goes back: to the diagram, to the least approach that is kept; ends a drag'],
-  ['Ctrl+Z, Ctrl+Shift+Z', 'undo, redo'],
+  ['Ctrl+Z', 'takes back the last step; where a text was typed since, that text'],
+  ['Ctrl+Y, Ctrl+Shift+Z', 'does again what was taken back'],
 ];
 
 /**

@@ -3,7 +3,7 @@
 import { Actions } from './actions.js';
 import { ChosenPart } from './chosen.js';
 import { CurvesPart } from './curves.js';
-import { make, part } from './dom.js';
+import { hasTyped, make, part } from './dom.js';
 import { GridPart } from './grid.js';
 import { helpPart } from './help.js';
 import { History } from './history.js';
@@ -32,14 +32,16 @@ const measured = (state, before) => {
  * @param {() => void} help
  */
 function pressed(event, actions, help) {
-  const { target } = event;
+  const { target } = event, key = event.key.toLowerCase();
   const typing = target instanceof HTMLElement && target.matches('input:not([type=range]), textarea, select');
-  if ((event.ctrlKey || event.metaKey) && event.key.toLowerCase() === 'z' && !typing) {
+  if (event.ctrlKey || event.metaKey) {
+    // Where a text was typed since, the browser takes that back.
+    if (event.altKey || key !== 'z' && key !== 'y' || hasTyped(target)) return;
     event.preventDefault();
-    actions.do({ kind: event.shiftKey ? 'redo' : 'undo' });
-  } else if (typing || event.ctrlKey || event.metaKey || event.altKey || !isAtDiagram(target)) return;
-  else if (event.key === '?') help();
-  else if (event.key === 'g') focusFirst(part('ways'));
+    actions.do({ kind: key === 'y' || event.shiftKey ? 'redo' : 'undo' });
+  } else if (typing || event.altKey) return;
+  else if (key === '?') help();
+  else if (key === 'g' && isAtDiagram(target)) focusFirst(part('ways'));
 }
 
 /**

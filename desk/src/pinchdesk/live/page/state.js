@@ -5,6 +5,7 @@
 /** @typedef {import('./contract.js').Slider} Slider */
 /** @typedef {import('./contract.js').View} View */
 /** @typedef {import('./contract.js').WayOffer} WayOffer */
+/** @typedef {import('./contract.js').WaysFound} WaysFound */
 
 /** @typedef {{kind: 'exchanger' | 'piece' | 'joint', name: string}} Chosen */
 /** @typedef {{piece: string, list: Offer[] | null}} Offers `list` is null until it is there */
@@ -18,7 +19,7 @@
  * @property {Offers | null} offers
  * @property {Instead | null} instead
  * @property {Moves | null} moves
- * @property {WayOffer[]} ways
+ * @property {WaysFound} ways
  * @property {boolean} waysAsked whether the ways are those of an earlier version
  * @property {WayOffer | null} way the way that is pointed at
  * @property {string[]} partners the partners of an offer that is pointed at
@@ -37,7 +38,8 @@ export class Store {
   constructor(view) {
     /** @type {State} */
     this.state = {
-      view, chosen: null, offers: null, instead: null, moves: null, ways: [], waysAsked: true, way: null, partners: [],
+      view, chosen: null, offers: null, instead: null, moves: null, ways: { ways: [], more: '' }, waysAsked: true,
+      way: null, partners: [],
       slider: null, refusal: null, busy: false, lost: false, elsewhere: false, closed: false,
     };
     /** @type {Renderer[]} */
@@ -60,7 +62,8 @@ export class Store {
 }
 
 /**
- * A view whose parts are those of the one before where they say the same: what is the same is not drawn again.
+ * A view whose parts are those of the one before where they say the same, or that one itself: what is the same is not
+ * drawn again.
  * @param {View} view
  * @param {View} before
  * @returns {View}
@@ -71,6 +74,7 @@ function shared(view, before) {
   for (const [name, old] of Object.entries(before)) {
     if (JSON.stringify(parts[name]) === JSON.stringify(old)) parts[name] = old;
   }
+  if (Object.entries(before).every(([name, old]) => parts[name] === old)) return before;
   return /** @type {View} */ (/** @type {unknown} */ (parts));
 }
 

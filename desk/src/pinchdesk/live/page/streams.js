@@ -171,6 +171,7 @@ export class StreamsPart {
    */
   async change(row, field, input) {
     this.typed = { key: `${row} ${field}`, text: input.value };
+    input.dataset.sent = input.value;
     if (await this.actions.do({ kind: 'cell', row, field, text: input.value })) this.typed = { key: '', text: '' };
   }
 

@@ -7,7 +7,7 @@
 /** @typedef {import('./contract.js').StepKept} StepKept */
 /** @typedef {import('./contract.js').TradeoffTable} TradeoffTable */
 /** @typedef {import('./contract.js').View} View */
-/** @typedef {import('./contract.js').WayOffer} WayOffer */
+/** @typedef {import('./contract.js').WaysFound} WaysFound */
 
 /** How long it waits, in ms, before it calls again. */
 const AGAIN = 1500;
@@ -111,11 +111,12 @@ export class Talk {
 
   /**
    * @param {number} version
-   * @returns {Promise<WayOffer[] | null>}
+   * @param {string | null} exchanger through which they go, where there are too many
+   * @returns {Promise<WaysFound | null>}
    */
-  async ways(version) {
-    const { status, content } = await this.ask('ways', { version });
-    return status === 409 ? null : content.ways ?? [];
+  async ways(version, exchanger) {
+    const { status, content } = await this.ask('ways', { version, ...(exchanger && { exchanger }) });
+    return status === 409 ? null : content;
   }
 
   /**
