@@ -99,7 +99,7 @@ def colours(text: str) -> dict[str, tuple[int, ...]]:
 
 
 STYLE = (PAGE / 'style.css').read_text(encoding='utf-8')
-SCHEMES = [colours(block) for block in re.findall(r':root \{(.*?)\}', STYLE, re.DOTALL)]
+SCHEMES = [colours(block) for block in re.findall(r':root \{(.*?)\}', STYLE, re.DOTALL) if '#' in block]
 
 
 def contrast(one: tuple[int, ...], other: tuple[int, ...]) -> float:

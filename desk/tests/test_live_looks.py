@@ -108,7 +108,8 @@ DRAWN = '''const seen = selector => [...document.querySelectorAll(selector)].map
 });
 return arguments[0].flatMap(seen)'''
 TEXTS = '''return [...document.querySelectorAll('#grid text')].map(found => getComputedStyle(found).fill)'''
-GROUND = "return getComputedStyle(document.querySelector('#grid .names')).backgroundColor"
+GROUNDS = '''return ['body', '#grid', '#grid .names'].map(place =>
+  getComputedStyle(document.querySelector(place)).backgroundColor)'''
 
 
 @pytest.mark.long
@@ -125,9 +126,13 @@ def test_forced_colours_leave_all_to_be_told_apart(opens: Opens, tmp_path: Path)
             page.choose('E4')
             drawn = driver.execute_script(DRAWN, ['.line line', '.joint .upright', '.exchanger .bar', '.ending rect',
                                                   '.pinch line', '.row .level'])
-            ground = driver.execute_script(GROUND)
+            ground, = {*driver.execute_script(GROUNDS)}
             assert drawn and {one['stroke'] for one in drawn}.isdisjoint({ground, 'none'})
-            assert {*driver.execute_script(TEXTS)}.isdisjoint({ground})
+            colour, = {*driver.execute_script(TEXTS)}
+            assert colour != ground
+            badge = driver.execute_script("const style = getComputedStyle(document.querySelector('.badge'));"
+                                          "return [style.color, style.backgroundColor]")
+            assert badge[0] != badge[1]
             chosen, other = (driver.execute_script(DRAWN, [f'[data-exchanger={name}] .bar'])[0]
                              for name in ('E4', 'E1'))
             assert chosen['stroke'] != other['stroke'] and chosen['width'] != other['width']
