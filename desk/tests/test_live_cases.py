@@ -115,3 +115,29 @@ def test_a_stream_of_several_segments_is_renamed_forbidden_and_removed_whole() -
     assert removed(forbidden, 'whole FEED') == 'contribution,,50,,,,\nhot,H,2000,900,250,,\nhot,K,900,500,100,,\n'
     with pytest.raises(NotDone):
         removed(FEED, 'whole K')
+
+
+@pytest.mark.parametrize('fields, row', [
+    ({'target': '60', 'flow': '2'}, 'hot,N,1500,600,200,,'),
+    ({'target': '60', 'load': '180'}, 'hot,N,1500,600,200,,'),
+    ({'target': '60', 'flow': '2', 'load': '180'}, 'hot,N,1500,600,200,,'),
+    ({'load': '180'}, 'hot,N,1500,1500,0,180000,')])
+def test_a_new_stream_has_a_cp_or_a_load(fields: dict[str, str], row: str) -> None:
+    """A load from supply to target is a CP: only alone it is that of a latent stream."""
+    text = as_text((EXAMPLES / 'tc3.csv').read_bytes())
+    new = added(text, completed_live(text), 'stream', {'name': 'N', 'side': 'hot', 'supply': '150', **fields})
+    assert row in new.split('\n')
+
+
+@pytest.mark.parametrize('fields, told', [
+    ({'target': '60', 'load': '183'}, 'a CP of 2.0333 kW/K, finer than a case can hold: give the CP 2.03 in its place, '
+                                      'which is 182.7 kW'),
+    ({'target': '60', 'flow': '2', 'load': '181'}, 'gives 180 kW from supply to target, and not 181'),
+    ({'target': '150', 'load': '181'}, 'give its load, and neither target nor CP'),
+    ({'flow': '2', 'load': '180'}, 'target has to be one'), ({'target': '60'}, 'CP has to be one'),
+    ({}, 'target has to be one')])
+def test_a_new_stream_that_can_be_read_in_two_ways_is_refused(fields: dict[str, str], told: str) -> None:
+    text = as_text((EXAMPLES / 'tc3.csv').read_bytes())
+    with pytest.raises(NotDone) as refused:
+        added(text, completed_live(text), 'stream', {'name': 'N', 'side': 'hot', 'supply': '150', **fields})
+    assert told in str(refused.value)

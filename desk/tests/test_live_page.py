@@ -340,8 +340,16 @@ def fill_in(page: LivePage, kind: str, **fields: str) -> None:
 
 @pytest.mark.long
 def test_what_is_added_renamed_and_removed_by_forms(page: LivePage, desk: OpenDesk) -> None:
-    fill_in(page, 'stream', name='S9', side='cold', supply='20', target='60', flow='1.5')
+    fill_in(page, 'stream', name='S9', side='cold', supply='20', target='60', load='60.01')
+    page.until(lambda: 'give the CP 1.5 in its place' in page.text('.adder .fault'))
+    assert page.one('[data-key="new stream target"]').get_attribute('value') == '60'
+    page.one('[data-key="new stream load"]').send_keys(Keys.CONTROL + 'a' + Keys.NULL, '60', Keys.ENTER)
     page.until(lambda: page.all('#streams input[aria-label="supply of S9"]'))
+    page.until(lambda: page.focused() == 'new stream name')
+    page.press('S10', Keys.TAB, Keys.TAB, '30', Keys.TAB, '40', Keys.TAB, '1', Keys.ENTER)
+    page.until(lambda: page.all('#streams input[aria-label="supply of S10"]'))
+    page.one('[data-key="remove stream S10"]').click()
+    page.until(lambda: not page.all('#streams input[aria-label="supply of S10"]'))
     fill_in(page, 'utility', name='MP', side='hot', level='230', price='100')
     page.until(lambda: page.all('#streams input[aria-label="level of MP"]'))
     fill_in(page, 'forbid', hot='S1', cold='S9')

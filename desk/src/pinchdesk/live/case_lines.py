@@ -252,13 +252,34 @@ def is_invented(source: Stream | Utility) -> bool:
 
 
 def stream_fields(typed: Typed, fields: dict[str, str]) -> list[str]:
+    """The row of a new stream, with a CP, with a load from its supply to its target, or latent, with a load alone."""
     name, supply = typed.name(fields.get('name', '')), typed.field('supply', fields.get('supply', ''))
     own = typed.field('contribution', fields.get('contribution', ''))
     load = typed.field('load', fields.get('load', ''))
-    if load:
+    given = {field: fields.get(field, '') for field in ('target', 'flow')}
+    if load and not any(text.strip() for text in given.values()):
         return [fields['side'], name, supply, supply, '0', load, own]
-    target, flow = (typed.field(field, fields.get(field, '')) for field in ('target', 'flow'))
+    target = typed.field('target', given['target'])
+    flow = typed.field('flow', given['flow']) if given['flow'].strip() or not load else ''
+    if load:
+        flow = flow_of(typed, abs(int(target) - int(supply)), int(load), flow)
     return [fields['side'], name, supply, target, flow, '', own]
+
+
+def flow_of(typed: Typed, span: int, load: int, flow: str) -> str:
+    """The CP of a load over a span of temperature; `NotDone` where a case cannot hold it, or another one is given."""
+    shown = Shown(typed.case.basis)
+    if not span:
+        raise NotDone('A stream with the same supply and target is latent: give its load, and neither target nor CP.')
+    if flow and int(flow) * span != load:
+        raise NotDone(f'This CP gives {shown.heat(int(flow) * span)} {shown.heat_unit} from supply to target, and not '
+                      f'{shown.heat(load)}: leave the CP or the load out.')
+    wanted = Fraction(load, span)
+    if wanted.denominator != 1:
+        near = max(round(wanted), 1)
+        raise NotDone(f'This load is a CP of {shown.flow(wanted)} {shown.flow_unit}, finer than a case can hold: give '
+                      f'the CP {shown.flow(near)} in its place, which is {shown.heat(near * span)} {shown.heat_unit}.')
+    return str(wanted)
 
 
 def utility_fields(typed: Typed, fields: dict[str, str]) -> list[str]:

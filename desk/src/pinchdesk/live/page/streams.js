@@ -1,6 +1,6 @@
 // The table of streams, utilities and forbidden matches: each cell is typed in place, in the units of the case.
 
-import { fill, make } from './dom.js';
+import { fill, keyed, make } from './dom.js';
 import { changed, viewChanged } from './state.js';
 
 /** @typedef {import('./actions.js').Actions} Actions */
@@ -32,6 +32,10 @@ export class StreamsPart {
     /** What was typed last, and in which cell: where it is refused it stays there. */
     this.typed = { key: '', text: '' };
     this.opened = '';
+    /** @type {Map<string, string>} what was begun in the forms, by their fields */
+    this.begun = new Map();
+    /** @type {{kind: string, refusal: import('./contract.js').Refusal | null}} what was refused last of a form */
+    this.refused = { kind: '', refusal: null };
     /** @type {Set<string>} the streams whose segments are shown */
     this.unfolded = new Set();
     /** How long the longest name is. */
@@ -201,41 +205,56 @@ export class StreamsPart {
   }
 
   /**
+   * A field of a form, with what was begun in it: the panel is drawn anew where an answer comes.
+   * @param {string} kind
+   * @param {string} name
+   * @param {View} view
+   */
+  adderField(kind, name, view) {
+    const key = `new ${kind} ${name}`, begun = this.begun.get(key);
+    /** @param {{target: HTMLInputElement | HTMLSelectElement}} event */
+    const input = event => { this.begun.set(key, event.target.value); };
+    /** @param {string} side */
+    const named = side => [...view.streams, ...view.utilities].filter(source => source.side === side)
+      .map(source => source.name);
+    const list = name === 'side' ? ['hot', 'cold'] : kind === 'forbid' ? named(name) : null;
+    return list ? make('select', { 'data-key': key, input },
+      ...list.map(word => make('option', { selected: word === begun }, word)))
+      : make('input', { 'data-key': key, input, value: begun, size: 9, autocomplete: 'off', spellcheck: 'false' });
+  }
+
+  /**
    * @param {'stream' | 'utility' | 'forbid'} kind
    * @param {View} view
    * @param {string} difference
    */
   adder(kind, view, difference) {
     /** @type {[string, HTMLInputElement | HTMLSelectElement][]} */
-    const fields = FORMS[kind].map(name => [name, adderField(kind, name, view)]);
+    const fields = FORMS[kind].map(name => [name, this.adderField(kind, name, view)]);
+    const { refusal } = this.actions.state;
     return make('form', {
       class: 'adder', submit: async (/** @type {Event} */ event) => {
         event.preventDefault();
         const filled = fields.map(([name, field]) => [name, field.value.trim()]).filter(([, text]) => text);
-        if (await this.actions.do({ kind: 'add', what: kind, ...Object.fromEntries(filled) })) this.opened = '';
+        if (!await this.actions.do({ kind: 'add', what: kind, ...Object.fromEntries(filled) })) {
+          this.refused = { kind, refusal: this.actions.state.refusal };
+          this.render(this.actions.state, null);
+          return;
+        }
+        // One is seldom alone: the form is ready for the next one, on the same side.
+        for (const name of FORMS[kind]) if (name !== 'side') this.begun.delete(`new ${kind} ${name}`);
+        this.render(this.actions.state, null);
+        const first = keyed(this.panel, `new ${kind} ${FORMS[kind][0]}`);
+        if (first instanceof HTMLInputElement) first.value = '';
+        first?.focus();
       },
     }, ...fields.map(([name, field]) => make('label', {}, make('span', {}, WORDS[name] ?? name), field)),
-    kind === 'stream' && make('p', { class: 'pale' }, 'A latent stream has a load in place of a target and a CP. '
-      + `Without an own ΔT (${difference}) it has that of the case.`),
+    kind === 'stream' && make('p', { class: 'pale' }, 'A CP, or a load from supply to target; a latent stream has a '
+      + `load alone. Without an own ΔT (${difference}) it has that of the case.`),
+    refusal && this.refused.kind === kind && refusal === this.refused.refusal
+      && make('p', { class: 'fault' }, `⚠ ${refusal.text}`),
     make('button', { 'data-key': `add ${kind} now` }, 'add'));
   }
-}
-
-/**
- * @param {string} kind
- * @param {string} name
- * @param {View} view
- */
-function adderField(kind, name, view) {
-  const key = { 'data-key': `new ${kind} ${name}` };
-  const lists = {
-    side: ['hot', 'cold'],
-    hot: [...view.streams, ...view.utilities].filter(source => source.side === 'hot').map(source => source.name),
-    cold: [...view.streams, ...view.utilities].filter(source => source.side === 'cold').map(source => source.name),
-  };
-  const list = name === 'side' || kind === 'forbid' ? lists[/** @type {'side' | 'hot' | 'cold'} */ (name)] : null;
-  return list ? make('select', key, ...list.map(word => make('option', {}, word)))
-    : make('input', { ...key, size: 9, autocomplete: 'off', spellcheck: 'false' });
 }
 
 /** @param {string[]} words */
