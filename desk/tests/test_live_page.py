@@ -330,6 +330,15 @@ def test_exchangers_against_cost_and_a_network_that_is_taken(page: LivePage, des
     assert audited(desk) == 'accepted' and f'{count} exchangers' in page.text('#steps [aria-current]')
 
 
+# Its cooler is warmer than the end of its hot stream.
+WARM_COOLER = '''contribution,,50,,,,
+hot,H,1000,300,100,,
+cold,C,200,600,100,,
+heater,HP,1500,0,1000000,0,
+cooler,AIR,400,0,1000000,0,
+'''
+
+
 def fill_in(page: LivePage, kind: str, **fields: str) -> None:
     """Fills in a form that adds something, by keys, and sends it."""
     page.until(lambda: page.all(f'[data-key="add {kind}"]'))[0].click()
@@ -361,6 +370,22 @@ def test_what_is_added_renamed_and_removed_by_forms(page: LivePage, desk: OpenDe
     page.one('[data-key="remove stream FEED"]').click()
     page.until(lambda: not page.all('.forbids') and not page.all('#streams input[aria-label="name of FEED"]'))
     assert 'FEED' not in desk.case.read_text(encoding='utf-8') + desk.network.read_text(encoding='utf-8')
+    assert not page.errors()
+
+
+@pytest.mark.long
+def test_where_no_utility_reaches_the_page_offers_to_add_one(opens: Opens, tmp_path: Path) -> None:
+    (tmp_path / 'case.csv').write_text(WARM_COOLER, encoding='utf-8')
+    page, desk = opens(tmp_path / 'case.csv')
+    page.one('#grid [data-piece].fault').click()
+    page.until(lambda: 'No utility of the case reaches 30 °C on H' in page.text('#chosen'))
+    page.button('add a cold utility', '#chosen').click()
+    page.until(lambda: page.focused() == 'new utility name')
+    page.press('CW', Keys.TAB, Keys.TAB, '10', Keys.ENTER)
+    page.until(lambda: page.exchangers() == [] and not page.all('#grid [data-piece].fault'))
+    assert 'cooler,CW,100,' in desk.case.read_text(encoding='utf-8')
+    page.button('Serve the rest', '#score').click()
+    page.says('Accepted')
     assert not page.errors()
 
 

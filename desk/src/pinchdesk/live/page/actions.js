@@ -38,6 +38,8 @@ export class Actions {
     this.movesAsked = Promise.resolve([]);
     /** @type {() => Promise<boolean>} asks where the case of a table is kept */
     this.keeper = () => Promise.resolve(false);
+    /** @type {(side: string) => void} opens the form of a new utility of a side */
+    this.utilityForm = () => undefined;
   }
 
   /** The present state. */

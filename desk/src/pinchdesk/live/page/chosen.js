@@ -67,7 +67,9 @@ export class ChosenPart {
     return [
       title(`${piece.stream}: ${piece.duty} ${view.units.heat} open`,
         `${piece.first} → ${piece.last} ${view.units.temperature}`),
-      piece.fault && make('p', { class: 'fault' }, `⚠ ${piece.fault}`),
+      piece.fault && make('p', { class: 'fault' }, `⚠ ${piece.fault} `, make('button', {
+        type: 'button', 'data-key': 'add one', click: () => actions.utilityForm(piece.side === 'hot' ? 'cold' : 'hot'),
+      }, `add a ${piece.side === 'hot' ? 'cold' : 'hot'} utility …`)),
       list === null ? make('p', { class: 'pale' }, 'Looking for partners …')
         : list.length ? this.offerList(list)
           : make('p', {}, 'No stream and no utility can exchange heat with it here.'),

@@ -65,13 +65,15 @@ async function begin() {
   const actions = new Actions(talk, store);
   const help = helpPart(part('help'));
   actions.keeper = keepingPart(part('keeping'), actions);
+  const streams = new StreamsPart(part('streams'), actions);
+  actions.utilityForm = side => streams.open('utility', { side });
   /** @type {ChosenPart} */
   const chosen = new ChosenPart(part('chosen'), actions, key => grid.focus(key));
   /** @type {GridPart} */
   const grid = new GridPart(part('grid'), actions, (_, to) => chosen.enter(to));
   for (const renderer of [
     history.render, grid.render, topPart(actions, help), toastPart(), lostPart(),
-    new StreamsPart(part('streams'), actions).render,
+    streams.render,
     new CurvesPart(part('curves'), actions).render, chosen.render,
     new WaysPart(part('ways'), actions, () => grid.keys.enter()).render, scorePart(part('score'), actions),
     stepsPart(part('steps'), actions), tablePart(part('table'), actions), textsPart(part('texts'), actions),

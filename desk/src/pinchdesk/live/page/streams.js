@@ -205,6 +205,18 @@ export class StreamsPart {
   }
 
   /**
+   * Opens a form with some of its fields filled in, and goes to its first one.
+   * @param {keyof typeof FORMS} kind
+   * @param {Record<string, string>} fields
+   */
+  open(kind, fields) {
+    this.opened = kind;
+    for (const [name, text] of Object.entries(fields)) this.begun.set(`new ${kind} ${name}`, text);
+    this.render(this.actions.state, null);
+    keyed(this.panel, `new ${kind} ${FORMS[kind][0]}`)?.focus();
+  }
+
+  /**
    * A field of a form, with what was begun in it: the panel is drawn anew where an answer comes.
    * @param {string} kind
    * @param {string} name
