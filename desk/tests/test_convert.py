@@ -165,7 +165,9 @@ def test_latent_streams_have_equal_temperatures_and_a_duty() -> None:
     assert 'has to say hot or cold' in refusal('name,supply,target,duty\nB,90,90,5\n')
     assert 'the duty is missing' in refusal('kind,name,supply,target,duty\nhot,B,90,90,\n')
     assert 'has a duty and no CP' in refusal('kind,name,supply,target,CP,duty\nhot,B,90,90,4,5\n')
-    assert 'a duty is above 0' in refusal('kind,name,supply,target,duty\nhot,B,90,90,-5\n')
+    assert 'a duty is above 0' in refusal('kind,name,supply,target,duty\nhot,B,90,90,0\n')
+    both = refusal('kind,name,supply,target,duty\nhot,A,95,95,-5\ncold,B,90,90,-5\n')
+    assert 'is below 0, and the stream warms up' in both
 
 
 def test_utilities_have_prices_and_all_costs_come_back(pinch: Pinch) -> None:

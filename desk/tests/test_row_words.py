@@ -127,3 +127,16 @@ def test_rows_of_costs_are_passed_over_and_streams_are_not() -> None:
     assert any('Interest rate 10 %' in note for note in made(COSTS_BELOW).notes)
     assert refusal(COSTS_BELOW.replace('Plant life;5;years', 'Plant air;5;years'))
     assert refusal(COSTS_BELOW.replace('Plant life;5;years', 'Plant life;5;60'))
+
+
+SIGNED = 'Name,Tin (°C),Tout (°C),ΔH (kW)\nB1,170,60,-330\nB2,20,135,230\n{},{},{},{}\n'
+
+
+def test_the_sign_of_a_duty_says_the_side_of_a_latent_stream() -> None:
+    assert streams(SIGNED.format('B3', 95, 95, -150))[-1] == ('hot', 'B3', 950, 950, 0, 150_000)
+    assert streams(SIGNED.format('B3', 95, 95, 150))[-1] == ('cold', 'B3', 950, 950, 0, 150_000)
+    kinds = 'Kind,' + SIGNED.format('B3', 95, 95, -150).replace('B1', 'hot,B1').replace('B2', 'cold,B2')
+    assert streams(kinds.replace('B3', 'hot,B3'))[-1][0] == 'hot'
+    assert 'the duty -150 kW is below 0, and the stream warms up' in refusal(kinds.replace('B3', 'cold,B3'))
+    assert 'what a stream gives' in refusal(SIGNED.format('B3', 95, 60, 150))
+    assert OPEN in refusal(SIGNED.format('B3', 95, 95, 150).replace('-330', '330'))

@@ -51,6 +51,7 @@ class Maker:
 
     def made(self, body: Body, names: dict[str, str]) -> Converted:
         self.entries.spread, self.entries.trusted = spread_of(body.lines, self.reader)
+        self.entries.changes = are_changes(body.lines, self.reader)
         for line in body.lines:
             self.take(line)
         for ranged in self.segments_of_ranges.wholes():
@@ -327,3 +328,15 @@ def spread_of(lines: Sequence[Line], reader: CellReader) -> tuple[tuple[Fraction
     named = [(side, fall) for side, fall in said if side]
     agreed = all((side == 'hot') == (fall > 0) for side, fall in named)
     return spread, agreed and {side for side, _ in named} == {'hot', 'cold'}
+
+
+def are_changes(lines: Sequence[Line], reader: CellReader) -> bool:
+    """Whether of the streams that run from one temperature to another each hot one has a duty below 0, each cold one
+    has one above 0, and there are both."""
+    said: set[tuple[bool, bool]] = set()
+    for line in lines:
+        supply, target = (temperature(line, heading, reader) for heading in (Heading.SUPPLY, Heading.TARGET))
+        duty = reader.quiet(line.row, line.at(Heading.LOAD)) if line.has(Heading.LOAD) else None
+        if line.is_stream and supply is not None and target is not None and supply != target and duty:
+            said.add((supply > target, duty < 0))
+    return said == {(True, True), (False, False)}

@@ -51,6 +51,8 @@ class Entries:
         # The least and the greatest temperature of all streams, and whether their names, as H1, say which way they run.
         self.spread: tuple[Fraction, Fraction] | None = None
         self.trusted = False
+        # Whether duties below 0 are those of all hot streams, and those above 0 of all cold ones.
+        self.changes = False
         # What was made of a mass flow, by the row and the other heading.
         self.products: dict[tuple[int, Heading], Fraction] = {}
 
@@ -128,7 +130,7 @@ class Entries:
         if supply is None or target is None:
             return None
         side = self.side(line, supply, target)
-        size = self.load(line) if supply == target else self.flow(line, abs(supply - target), side)
+        size = self.load(line, side) if supply == target else self.flow(line, abs(supply - target), side)
         if side is None or size is None:
             return None
         cp, load = (0, size) if supply == target else (size, 0)
@@ -168,6 +170,11 @@ class Entries:
         if supply == target and not line.kind and self.named_side(line):
             self.told.note(row, line.at(Heading.NAME), f'`{line.name()}` is {self.named_side(line)} by its name')
             return Side(self.named_side(line))
+        duty = self.reader.quiet(line.row, line.at(Heading.LOAD))
+        if supply == target and not line.kind and self.changes and duty:
+            signed = Side.HOT if duty < 0 else Side.COLD
+            self.told.note(row, line.at(Heading.LOAD), f'`{line.name()}` is {signed.value} by the sign of its duty')
+            return signed
         if supply == target and not line.kind:
             self.told.fault(row, None, 'supply and target are the same: a column `kind` has to say hot or cold, or '
                             'heater or cooler where it is a utility')
@@ -183,8 +190,8 @@ class Entries:
         plain = line.name()[:1].upper() + line.name()[1:].lower()
         return side_of_name(line) if self.trusted or plain.startswith(('Hot', 'Cold')) else ''
 
-    def load(self, line: Line) -> int | None:
-        """The load of a latent stream, in W."""
+    def load(self, line: Line, side: Side | None) -> int | None:
+        """The load of a latent stream, in W; its sign has to be that of its side."""
         column, flow = line.at(Heading.LOAD), line.at(Heading.CP)
         if self.given(line, Heading.CP):
             cp = self.reader.measured(line.row, flow, Kind.FLOW)
@@ -193,17 +200,21 @@ class Entries:
                 self.told.fault(line.row.number, flow, cause)
                 return None
         if not self.given(line, Heading.LOAD):
-            product = self.product(line, Heading.LATENT)
-            if product is None:
+            heading, duty = Heading.LATENT, self.product(line, Heading.LATENT)
+            if duty is None:
                 self.told.fault(line.row.number, column, 'supply and target are the same: the duty is missing')
-                return None
-            self.check(line, Heading.LATENT, LOAD, product.value, f'the duty {product.text}')
-            return self.reader.rounded(line.row, line.at(Heading.LATENT), Kind.HEAT, product, self.scale)
-        duty = self.reader.measured(line.row, column, Kind.HEAT)
-        if duty is not None and duty.value <= 0:
+        else:
+            heading, duty = Heading.LOAD, self.reader.measured(line.row, column, Kind.HEAT)
+        if duty is None or side is None:
+            return None
+        if duty.value == 0:
             self.told.fault(line.row.number, column, 'a duty is above 0 (in W): hot or cold says which way it goes')
             return None
-        return self.limited(line, Heading.LOAD, Kind.HEAT, LOAD)
+        if duty.value < 0:
+            self.duties.append((line, side, duty))
+        size = replace(duty, value=abs(duty.value))
+        self.check(line, heading, LOAD, size.value, f'the duty {size.text}')
+        return self.reader.rounded(line.row, line.at(heading), Kind.HEAT, size, self.scale)
 
     def check_signs(self) -> None:
         """Tells a fault for each duty whose sign contradicts its temperatures: below 0 is what a hot stream gives, and
