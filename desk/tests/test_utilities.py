@@ -196,6 +196,10 @@ REFUSED = [
     (PUMP | {'pump_efficiency': '0.05'}, 'at an efficiency of 0.05 a heat pump from 65 °C to 100 °C gives no more'),
     ({'refrigeration': '0.6', 'ambient': '50'}, 'the case has no cooler of its own, and COLD, which stands in'),
     ({'exergetic': '0.7'}, 'the case has no heater of its own, so it has no steam main'),
+    ({'exergetic': '0.7', 'mains': ','}, '--mains ,: names of heaters are needed, with commas between them'),
+    ({'isentropic': '0.7', 'inlet': '100 bar'}, '100 bar: a pressure needs its temperature beside it'),
+    ({'isentropic': '0.7', 'inlet': '0 bar 500'}, '--inlet 0 bar 500: the pressure has to be above 0'),
+    ({'isentropic': '0.7', 'inlet': '-1 bar 500'}, '--inlet -1 bar 500: the pressure has to be above 0'),
     ({'isentropic': '0.7', 'exergetic': '0.7'}, 'an isentropic or an exergetic efficiency, not both')]
 
 
@@ -224,6 +228,29 @@ def test_mains_that_are_none_are_refused() -> None:
     assert 'the inlet, 150 °C, is colder than HP' in refused(case, exergetic='0.7', inlet='150')
     hotter = case.replace(b'HP,1700', b'HP,5000')
     assert 'no saturated steam at the temperature of HP' in refused(hotter, exergetic='0.7')
+
+
+RANGED = b'#utility,GAS,1,2,,,\n#utility,CW,0,668,,,\n' + FOUR + b"""hot,GAS,15000,1600,2,,
+cold,CW,200,300,668,,
+heater,HOT,15000,0,1000000000000,1,
+cooler,COLD,200,0,1000000000000,0,
+"""
+
+
+def test_utilities_with_a_range_are_not_in_the_curve() -> None:
+    """They are streams of the case, so that it needs nothing else; the plant needs what it needs without them."""
+    asked = {'flame': '1000', 'stack': '80', 'ambient': '20'}
+    facts, alone = facts_of(RANGED, **asked), facts_of(FOUR, **asked)
+    assert {name: facts[name] for name in alone} == alone and facts['fuel'] == Decimal('21.538')
+    told = str(answered(RANGED, **asked).content('text'))
+    assert 'without the utilities with a range, GAS, CW' in told
+
+
+def test_what_stands_in_for_a_range_is_no_level_and_no_main() -> None:
+    assert 'CW has a range of temperature from 20 °C on, below the surroundings at 25 °C' in refused(
+        RANGED, refrigeration='0.6')
+    assert 'No cold utility is below 15 °C' in str(answered(RANGED, refrigeration='0.6', ambient='15').content('text'))
+    assert 'so it has no steam main' in refused(RANGED, exergetic='0.7')
 
 
 def test_without_a_pinch_there_is_nothing_to_pump_or_burn() -> None:

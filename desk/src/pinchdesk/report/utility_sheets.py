@@ -135,11 +135,14 @@ def utilities_notes(found: UtilityTargets) -> Iterator[str]:
         yield ESTIMATE
     if found.case.forbids:
         yield FORBIDS
+    if found.ranges:
+        yield f'targets and curve are without the utilities with a range, {", ".join(found.ranges)}'
 
 
 def utilities_sheets(found: UtilityTargets) -> Iterator[Sheet]:
     """The targets and the curve, then what was asked."""
-    yield lines_sheet('Targets', (*targets_facts(found.case, found.targets), *ambient_facts(found)))
+    title = 'Targets without the utilities with a range' if found.ranges else 'Targets'
+    yield lines_sheet(title, (*targets_facts(found.case, found.targets), *ambient_facts(found)))
     yield curve_sheet(found)
     yield from asked_sheets(found)
 

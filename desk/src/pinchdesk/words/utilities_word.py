@@ -25,7 +25,7 @@ from .shared import CASE, SHOWN_IN, CaseShown, completed_case
 from .word import Answer, Files, Option, Word, feasibility
 
 AMBIENT = '25 °C'
-PRESSURE = re.compile(r'(?P<pressure>[0-9.,]+\s*[A-Za-z]+\s*(?:\([ag]\))?)\s+(?P<temperature>\S.*)')
+PRESSURE = re.compile(r'(?P<pressure>-?[0-9.,]+\s*[A-Za-z]+\s*(?:\([ag]\))?)(?:\s+(?P<temperature>\S.*))?')
 BESIDE_CURVE = (
     Option('flame', 'a flue gas with this theoretical flame temperature, in °C or with its unit', ('--flame',),
            metavar='T'),
@@ -116,6 +116,9 @@ class UtilitiesOptions(BesideCurveOptions):
             return None
         efficiency = efficiency_said(said, flag)
         names = () if self.mains is None else tuple(name.strip() for name in self.mains.split(','))
+        if not all(names):
+            raise WordsError(f'--mains {shortened(self.mains or "")}: names of heaters are needed, with commas between '
+                             'them')
         inlet = None if self.inlet is None else inlet_said(self.inlet, units)
         if inlet and inlet.pressure is not None and self.exergetic is not None:
             raise WordsError(f'--inlet {shortened(self.inlet or "")}: with --exergetic it is a temperature alone')
@@ -133,12 +136,16 @@ def together(needed: dict[str, str | None], more: dict[str, str | None] | None =
 def inlet_said(text: str, units: CaseUnits) -> Inlet:
     """The steam before the turbines: a pressure and a temperature, or the temperature of saturated steam."""
     match = PRESSURE.fullmatch(text.strip())
-    if not match:
-        return Inlet(temperature_said(text, '--inlet', units))
-    value, unit = numeral_said(match['pressure'], '--inlet', 'a pressure, as "40 bar",')
+    value, unit = numeral_said(match['pressure'], '--inlet', 'a pressure, as "40 bar",') if match else (Fraction(0), '')
     pressure = pressure_of(value, unit)
+    if match is None or match['temperature'] is None and pressure is None:
+        return Inlet(temperature_said(text, '--inlet', units))
+    if match['temperature'] is None:
+        raise WordsError(f'--inlet {shortened(text)}: a pressure needs its temperature beside it, as "100 bar 500 °C"')
     if pressure is None:
         raise WordsError(f'--inlet {shortened(text)}: `{shortened(unit)}` is not a unit of pressures')
+    if pressure <= 0:
+        raise WordsError(f'--inlet {shortened(text)}: the pressure has to be above 0')
     return Inlet(temperature_said(match['temperature'], '--inlet', units), pressure)
 
 
