@@ -236,6 +236,20 @@ def test_words_that_change_the_case_say_that_the_sizes_stay(plant: Path) -> None
     assert done.status == 3 and 'make the case with --ranges level for a supertarget' in done.err
 
 
+def test_a_scenario_that_changes_one_has_what_that_costs(plant: Path) -> None:
+    """13.4 kW more of flue gas are 0.469 EUR/h; that much more to be cooled, 0.007 EUR/h."""
+    (plant / 'changes.csv').write_text('scenario;source;field;value\ngas;flue-gas;CP;+0.01\n', encoding='utf-8')
+    out = answer('whatif', 'case.csv', 'changes.csv', '--form', 'csv', cwd=plant).out
+    assert 'least cost with utilities with a range EUR/h' in out
+    assert 'base,0,,0,,none,0.971,' in out and 'gas,0,0,13.4,13.4,none,1.447,0.476' in out
+
+
+def test_a_notebook_has_them_behind_its_answers(plant: Path) -> None:
+    made = read(str(plant / 'case.csv'))
+    for answered in (made.targets(), made.flow(), made.what_if()):
+        assert 'all of them, in no cost of the program' in str(answered) and '0.971' in str(answered)
+
+
 def test_costs_a_year_have_them_beside(plant: Path) -> None:
     rows = '#overall,,500,W/m2K,,,\n#law,,,1000,500,1,m2\n#build,,counter-current,,,,exchanger\n' \
            '#capital,EUR,1,,,,\n#annual,factor,0.2,,8000,,\n'

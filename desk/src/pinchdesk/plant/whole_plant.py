@@ -26,6 +26,7 @@ from ..program.run import Pinch
 from ..program.verdicts import Accepted, Verdict
 from ..report.page import Given, case_streams, page_of, review_of
 from ..report.page_head import PageHead
+from ..report.range_sheets import with_ranges_sheet
 from ..search.find import find_network, in_place_of, unseen
 from ..tables.convert import is_case
 from ..tables.cost_words import cost_of, percent_of
@@ -92,8 +93,10 @@ class Plant:
         return (self.case.basis.rounding,) if self.case.basis.rounding else ()
 
     def noted(self, answer: Noted) -> Noted:
-        """An answer that says first how far its numbers may be off."""
-        return replace(answer, notes=(*self.rounding, *answer.notes))
+        """An answer that says first how far its numbers may be off, with its utilities with a range and their costs
+        behind it."""
+        return replace(answer, notes=(*self.rounding, *answer.notes),
+                       sheets=with_ranges_sheet(answer.sheets, self.text.encode()))
 
     def _repr_html_(self) -> str:
         return PlantAnswer(sheets=(case_streams(self.completed),), notes=self.notes)._repr_html_()

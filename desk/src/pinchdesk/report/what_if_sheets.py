@@ -9,6 +9,7 @@ from fractions import Fraction
 from ..analysis.change_columns import Field
 from ..analysis.what_if import ScenarioOutcome, PlusMinus, Step, WhatIf, little
 from ..formats.case import ANY_HEAT
+from ..formats.range_parts import cost_of_ranges
 from ..formats.shown import Shown
 from ..formats.whole_streams import parts_of
 from ..program.answers import Cut
@@ -42,22 +43,29 @@ def scenarios_table(answered: WhatIf) -> FactTable:
 
 
 def scenario_row(outcome: ScenarioOutcome, base: ScenarioOutcome, shown: Shown) -> FactRow:
+    """A scenario with its differences from the base. Costs have those of the utilities with a range in them, which it
+    may have changed."""
     hot: list[Cell] = [None, None]
     cold: list[Cell] = [None, None]
     cost: list[Cell] = [None, None]
     pinches: Cell = REFUSED
+    what = ' with utilities with a range' if base.case.basis.ranges else ''
     if outcome.targets and base.targets:
         hot = with_more(outcome.targets.hot, base.targets.hot, outcome is base, shown)
         cold = with_more(outcome.targets.cold, base.targets.cold, outcome is base, shown)
         pinches = pinches_of(outcome.targets.pinches, shown)
-        more = None if outcome is base or outcome.cost is None or base.cost is None \
-            else Decimal(shown.cost(outcome.cost - base.cost))
-        cost = [INFEASIBLE if outcome.cost is None else Decimal(shown.cost(outcome.cost)), more]
+        here, there = whole_cost(outcome), whole_cost(base)
+        more = None if outcome is base or here is None or there is None else Decimal(shown.cost(here - there))
+        cost = [INFEASIBLE if here is None else Decimal(shown.cost(here)), more]
     heat = shown.heat_unit
     return (Fact('scenario', outcome.variant.name), Fact('hot', hot[0], heat), Fact('more hot', hot[1], heat),
             Fact('cold', cold[0], heat), Fact('more cold', cold[1], heat),
             Fact('pinch, shifted', pinches, shown.temperature_unit),
-            Fact('least cost', cost[0], shown.cost_unit), Fact('more cost', cost[1], shown.cost_unit))
+            Fact(f'least cost{what}', cost[0], shown.cost_unit), Fact('more cost', cost[1], shown.cost_unit))
+
+
+def whole_cost(outcome: ScenarioOutcome) -> int | None:
+    return None if outcome.cost is None else outcome.cost + cost_of_ranges(outcome.case)
 
 
 def with_more(number: int, base: int, is_base: bool, shown: Shown) -> list[Cell]:
