@@ -230,6 +230,15 @@ def test_rows_of_a_stream_in_segments_stay_with_what_is_left_of_it() -> None:
     assert kept_cost_rows(rows, names, apart) == (rows[2], replace(rows[0], source='CRUDE-2'))
 
 
+def test_a_price_study_has_no_price_of_one(plant: Path) -> None:
+    (plant / 'study.csv').write_text('scenario,A,,\nprice,flue-gas,40,\n', encoding='utf-8')
+    done = pinchdesk('prices', 'case.csv', 'study.csv', cwd=plant)
+    assert done.status == 3 and 'study row 2: flue-gas is a utility with a range, held as a stream' in done.err
+    (plant / 'study.csv').write_text('scenario,A,,\nprice,HOT,30.25,\n', encoding='utf-8')
+    done = answer('prices', 'case.csv', 'study.csv', cwd=plant)
+    assert 'keep the sizes of the case in all rows' in done.err and '0.971' in done.out
+
+
 def test_words_that_change_the_case_say_that_the_sizes_stay(plant: Path) -> None:
     assert 'keep the sizes of the case in all rows' in answer('sweep', 'case.csv', '5', '10', '5', cwd=plant).err
     done = pinchdesk('supertarget', 'case.csv', '10', '20', '10', cwd=plant)

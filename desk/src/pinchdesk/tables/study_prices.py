@@ -48,6 +48,7 @@ def studied(content: bytes, case: Case) -> Studied:
     at, told = unit_of_rows(rows)
     if told not in ('', PER_WATT) and not same_price_unit(told, shown.price_unit):
         raise refusal(at, f'the prices are in {told}, and those of the case {shown.price_unit}')
+    check_ranges(rows, case)
     if not case.basis.price_unit or told == PER_WATT:
         return Studied(case, content)
     study_rows = [read_row(at, row, shown) for at, row in rows]
@@ -57,6 +58,15 @@ def studied(content: bytes, case: Case) -> Studied:
                                                     for study_row in study_rows)
     note = f'its prices are taken in {shown.price_unit}, as those of the case'
     return Studied(finer, text.getvalue().encode(), () if told else (note,))
+
+
+def check_ranges(rows: Iterable[tuple[int, Sequence[str]]], case: Case) -> None:
+    """`Refused` where a row has a price of a utility with a range, which the program has as a stream."""
+    names = {utility.name for utility in case.basis.ranges}
+    for at, row in rows:
+        if row[0] in PRICED and len(row) == 4 and row[1] in names:
+            raise refusal(at, f'{row[1]} is a utility with a range, held as a stream, which has no price in the '
+                          'program: its size rests on its price, so make another case with that')
 
 
 def read_row(at: int, row: Sequence[str], shown: Shown) -> StudyRow:
@@ -106,8 +116,9 @@ def cause_of(text: str, times: int, shown: Shown, fixed: bool) -> str:
 
 def with_finer(case: Case, times: int) -> Case:
     """A case with all its prices taken so many times, and its basis, so that they are shown as they were."""
+    ranges = tuple(replace(utility, price=utility.price * times) for utility in case.basis.ranges)
     basis = replace(case.basis, price_divisor=case.basis.price_divisor * times,
-                    cost_divisor=case.basis.cost_divisor * times)
+                    cost_divisor=case.basis.cost_divisor * times, ranges=ranges)
     return replace(case, utilities=tuple(replace(utility, price=utility.price * times) for utility in case.utilities),
                    basis=basis)
 

@@ -10,7 +10,7 @@ from ..program.run import Pinch
 from ..report.answer_sheets import prices_tables
 from ..report.facts import rows_of_tables
 from ..search.budget import Telling, nobody
-from .shared import CASE, SHOWN_IN, USUAL_WORKERS, WORKERS, CaseShown, told_of
+from .shared import CASE, SHOWN_IN, USUAL_WORKERS, WORKERS, CaseShown, sizes_told, told_of
 from .word import Answer, Files, Role, Word, feasibility
 
 STUDY = Role('study', 'a price study (docs/FORMATS.md), in the unit of the prices of the case')
@@ -36,7 +36,8 @@ def prices(files: Files, options: PricesOptions = PricesOptions(), tell: Telling
     answered = answered_study(files, options.workers)
     tables = prices_tables(answered.case, answered.prices)
     return Answer(tuple(table.sheet() for table in tables), facts=rows_of_tables(tables),
-                  notes=told_of(files.one('study'), answered.notes), status=feasibility(answered.prices.feasible))
+                  notes=(*told_of(files.one('study'), answered.notes), *sizes_told(files.one('case'), answered.case)),
+                  status=feasibility(answered.prices.feasible))
 
 
 PRICES = Word('prices', 'the least cost at other prices',
