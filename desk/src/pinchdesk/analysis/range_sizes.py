@@ -108,7 +108,7 @@ class Sizing:
                 if changed is not None and (cost is None or changed < cost):
                     sizes, cost = there, changed
             if sizes == before:
-                heat = heat // 2 if heat >= min(units) else 0
+                heat = heat // 2 if heat > min(units) else 0
         self.sizes.update(sizes)
 
     def cost_together(self) -> int | None:

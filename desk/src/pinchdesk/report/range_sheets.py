@@ -78,7 +78,8 @@ def less_told(checked: CheckedRange, shown: Shown) -> str:
     if not checked.flows:
         return 'the case has no heat flow'
     if checked.dearer is not None and checked.dearer < 0:
-        return f'{less} the cost is {shown.with_unit(-checked.dearer)} lower, since all are sized one after the other'
+        return f'{less}, and all others as they are, the cost is {shown.with_unit(-checked.dearer)} lower: the sizes ' \
+               'are those of all together in whole units of CP, or it has its least'
     if not checked.is_least:
         return f'{less} it is enough too'
     if checked.less_lacking:
