@@ -7,6 +7,7 @@ from decimal import Decimal
 from fractions import Fraction
 from math import ceil, floor
 from pathlib import Path
+from types import SimpleNamespace
 
 import numpy
 import pytest
@@ -167,6 +168,32 @@ def test_turbines_by_steam_tables() -> None:
     assert abs(Fraction(str(row[3])) / ideal - 1) < Fraction(1, 100)
     assert 'does not expand to HP' in refused(case, isentropic='0.8', inlet='20 bar 500 °C')
     assert 'there is no steam of 100 bar and 300 °C' in refused(case, isentropic='0.8', inlet='100 bar 300 °C')
+
+
+class FewTables:
+    """Three states of steam (steam tables, from memory): 100 bar and 500 °C, its entropy at the pressure of 180 °C, and
+    liquid there; and where steam of 100 bar is saturated."""
+
+    def __init__(self, T: float = 0, P: float = 0, s: float = 0, x: float | None = None) -> None:
+        if x == 1:
+            self.T = 584.15
+        elif x == 0:
+            self.P, self.h = 1.0028, 763.0
+        elif s:
+            assert (P, s) == (1.0028, 6.5995)
+            self.h = 2785.0
+        else:
+            assert round(T, 2) == 773.15
+            self.P, self.h, self.s = P, 3375.1, 6.5995
+
+
+def test_turbines_by_steam_tables_by_hand(monkeypatch: pytest.MonkeyPatch) -> None:
+    """A kilogram works 0.8 (3375.1 - 2785) = 472.08 kJ and gives 3375.1 - 472.08 - 763 = 2140.02 kJ: beside 1500 kW
+    these are 330.9 kW."""
+    monkeypatch.setitem(__import__('sys').modules, 'iapws', SimpleNamespace(IAPWS97=FewTables))
+    row, = answered(example('three-levels.csv'), isentropic='0.8', mains='LP',
+                    inlet='100 bar 500 °C').sheets[2].rows
+    assert [str(cell) for cell in row] == ['LP', '180', '1500', '330.9']
 
 
 def test_without_steam_tables_that_is_said(monkeypatch: pytest.MonkeyPatch) -> None:
