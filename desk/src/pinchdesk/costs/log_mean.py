@@ -74,5 +74,9 @@ def two_ends() -> tuple[int, int]:
 
 
 def log_mean_between(first: Enclosure, second: Enclosure) -> Enclosure:
-    """The logarithmic mean of two enclosures above 0: it rises with both."""
-    return between(log_mean(first.low, second.low), log_mean(first.high, second.high))
+    """The logarithmic mean of two enclosures above 0. Where they are far apart no digit is lost between them; else it
+    is taken at their ends, since it rises with both."""
+    low, other = first.low, second.low
+    if ((low - other) / (low + other)) ** 2 < NEAR:
+        return between(log_mean(low, other), log_mean(first.high, second.high))
+    return (first - second) / logarithm(first / second)

@@ -62,9 +62,15 @@ def shells_of(duty: Duty, part: Fraction) -> Enclosure:
 
 
 @lru_cache(maxsize=RATIOS)
+def root_of(ratio: Fraction) -> Enclosure:
+    """s, the root of R² + 1."""
+    return square_root(ratio ** 2 + 1)
+
+
+@lru_cache(maxsize=RATIOS)
 def shell_share(ratio: Fraction, part: Fraction) -> Enclosure:
     """How many shells are needed for each logarithmic mean that the cold side warms up."""
-    base = ratio + 1 + square_root(ratio ** 2 + 1)
+    base = ratio + 1 + root_of(ratio)
     return log_mean_between(base - 2 * ratio * part, base - 2 * part) / (2 * part)
 
 
@@ -109,14 +115,14 @@ def corrections(duties: Sequence[Duty], part: Fraction, shells: int) -> list[Enc
 def correction_at(ratio: Fraction, part: Fraction) -> Enclosure:
     """Ft of a shell that reaches this part of the greatest effectiveness: that of a target, whose shells are real
     numbers, so that it does not depend on where curves are cut."""
-    factor = factor_at(2 * part / (ratio + 1 + square_root(ratio ** 2 + 1)), ratio)
+    factor = factor_at(2 * part / (ratio + 1 + root_of(ratio)), ratio)
     assert factor is not None
     return factor
 
 
 def factor_at(effectiveness: Enclosure, ratio: Fraction) -> Enclosure | None:
     """Ft of one shell; None where it cannot reach this effectiveness."""
-    root = square_root(ratio ** 2 + 1)
+    root = root_of(ratio)
     left, below = 2 - effectiveness * (ratio + 1 - root), 2 - effectiveness * (ratio + 1 + root)
     if below.low <= 0:
         return None
