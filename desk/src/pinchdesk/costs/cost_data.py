@@ -19,6 +19,7 @@ from ..formats.whole_streams import whole_names
 from ..tables.money import two_moneys
 from ..tables.units import Kind, UnknownUnit, unit_of
 from .cost_units import NoUnit, area_factor, coefficient_factor, fouling_resistance
+from .price_units import TIMES, fault_of_divisors
 
 Row = TypeVar('Row', bound=CostRow)
 Result = TypeVar('Result')
@@ -242,13 +243,19 @@ class CostData:
         """What a cost of the program is a year in the money of the capital."""
         basis = self.case.basis
         money, _, time = basis.cost_unit.replace('per ', '/').partition('/')
-        if time not in ('a', 'h') or money.startswith('price times'):
+        if not time or money.startswith('price times'):
             raise refused('prices', 'they have no unit, so their cost has none that could be added to a capital: '
                           'enter rows `#price,EUR/MWh,DIVISOR,,,,` and `#cost,EUR/h,DIVISOR,,,,`, or make the case of '
                           'a table with a unit of prices')
+        if time.strip() not in TIMES:
+            raise refused('#cost', f'`{basis.cost_unit}` is no cost of a year or of an hour: enter EUR/a or EUR/h')
+        time = TIMES[time.strip()]
         fault = two_moneys(money.strip(), self.capital.currency)
         if fault:
             raise refused('currency of the prices', f'{fault}; prices and cost laws need one currency')
+        fault = fault_of_divisors(basis, time, self.annual.hours)
+        if fault:
+            raise refused('#cost', fault)
         if time == 'h' and self.annual.hours is None:
             raise missing('number of hours a year', f'#annual,{self.annual.form.value},..,HOURS,,')
         hours = self.annual.hours if time == 'h' and self.annual.hours else Fraction(1)
