@@ -3,6 +3,7 @@ from __future__ import annotations
 
 from fractions import Fraction
 
+import pytest
 from conftest import example
 from segmented_cases import FEED, FEED_NETWORK
 
@@ -91,8 +92,15 @@ def test_an_exchanger_of_several_parts_is_tight_where_all_of_them_are() -> None:
     assert tight_of(case, network) == ('E1+E2',)
 
 
-def test_where_nothing_goes_through_a_cut_segments_are_one_in_a_window(pinch: Pinch) -> None:
-    case, _ = CRUDE
+# Of both its streams a window has no segment.
+APART = completed(read_case(
+    'contribution,,50,,,,\n#segment,H,H-1,,,,\n#segment,H,H-2,,,,\n#segment,C,C-1,,,,\n#segment,C,C-2,,,,\n'
+    'hot,H-1,1000,800,10,,\nhot,H-2,800,600,20,,\nhot,G,3000,2000,10,,\ncold,C-1,2100,2200,20,,\n'
+    'cold,C-2,2200,2500,40,,\ncold,D,300,400,10,,\n'))
+
+
+@pytest.mark.parametrize('case', [CRUDE[0], APART], ids=['crude', 'apart'])
+def test_where_nothing_goes_through_a_cut_segments_are_one_in_a_window(pinch: Pinch, case: Case) -> None:
     flow = pinch.flow(case)
     assert not isinstance(flow, Cut)
     cut = cut_case(case, windows(case, {use.name: use.heat for use in flow.uses})).case

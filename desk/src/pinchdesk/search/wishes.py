@@ -109,7 +109,8 @@ def cut_segments(case: Case, windows: Sequence[Sequence[tuple[str, Side]]]) -> I
         for number, window in enumerate(windows):
             names = {name for name, _ in window}
             there = [name for name in (f'{segment}~{number}' for segment in stream.segments) if name in names]
-            yield SegmentedStream(f'{stream.name}~{number}', tuple(there))
+            if there:
+                yield SegmentedStream(f'{stream.name}~{number}', tuple(there))
 
 
 def stream_of(case: Case, piece: WindowPiece, name: str) -> Stream:
