@@ -15,7 +15,7 @@ from conftest import EXAMPLES
 from pinchdesk.live.bench import Bench
 from pinchdesk.live.own_files import OwnFile
 from pinchdesk.live.server import Served
-from pinchdesk.live.view import Offer, View
+from pinchdesk.live.view import Offer, View, WayOffer, WaysFound
 from pinchdesk.program.run import Pinch
 
 
@@ -64,6 +64,12 @@ class Hand:
         found = self.bench.offers(self.view.version, piece)
         assert isinstance(found, tuple)
         return found
+
+    def ways(self, exchanger: str | None = None) -> tuple[WayOffer, ...]:
+        """Loops and paths, those through an exchanger where there are too many."""
+        found = self.bench.ways(self.view.version, exchanger)
+        assert isinstance(found, WaysFound)
+        return found.ways
 
     def drops(self, piece: str, partner: str) -> View:
         """Drags a piece to another one, or to a utility: the best offer there."""

@@ -30,8 +30,10 @@ from pinchdesk.program.verdicts import Accepted
 
 
 # Of each match of the published network its streams, the side of the pinch, and what is offered.
-PUBLISHED = (('S1', 'S3', 'above', '120 kW, finishes S1'), ('S2', 'S4', 'below', '135 kW, finishes S4'),
-             ('S2', 'S3', 'below', '105 kW, finishes S2'), ('S1', 'S3', 'below', '20 kW, finishes S3'))
+PUBLISHED = (('S1', 'S3', 'above', '120 kW, ticks off S1 above the pinch'),
+             ('S2', 'S4', 'below', '135 kW, ticks off S4 below the pinch'),
+             ('S2', 'S3', 'below', '105 kW, finishes S2'),
+             ('S1', 'S3', 'below', '20 kW, ticks off S3 below the pinch'))
 
 
 def test_tc3_is_made_by_hand_then_broken_and_mended(tmp_path: Path) -> None:
@@ -46,15 +48,13 @@ def test_tc3_is_made_by_hand_then_broken_and_mended(tmp_path: Path) -> None:
         assert view.curves_left and view.curves_left.hot_utility == 'hot 107.5 kW'
     view = hand.does('finish')
     assert (view.verdict.kind, view.score.stands_hot, view.score.units) == ('accepted', '107.5', '7; the rule: 7')
-    ways = hand.bench.ways(view.version)
-    assert isinstance(ways, tuple)
-    loop = next(way for way in ways if way.breaks == 'E4 goes (20 kW)')
+    ways = hand.ways()
+    loop = next(way for way in ways if way.breaks.startswith('E4 goes (20 kW), costs nothing; E1 '))
     view = hand.does('break', way=loop.id)
     assert view.verdict.kind == 'rejected'
     assert [(place.kind, place.name) for place in view.verdict.places] == [('exchanger', 'E1')]
-    assert '80 °C' in view.verdict.text and '82 °C' in view.verdict.text
-    ways = hand.bench.ways(view.version)
-    assert isinstance(ways, tuple)
+    assert '80 °C' in view.verdict.text and '62 °C, 18 K, and 20 K are needed' in view.verdict.text
+    ways = hand.ways()
     assert (ways[0].kind, ways[0].least, ways[0].most, ways[0].mends) == ('path', '4', '140', ('E1',))
     view = hand.does('shift', way=ways[0].id, heat=ways[0].first)
     assert (view.verdict.kind, view.score.stands_hot, view.score.placed) == ('accepted', '111.5', 6)
@@ -287,7 +287,7 @@ def test_the_rest_takes_one_utility_a_piece_or_the_cheapest_at_each_temperature(
 def test_where_utilities_have_prices_an_offer_says_what_it_costs_in_money(tmp_path: Path) -> None:
     hand = Hand(bench_of(tmp_path, 'two-steam-levels'))
     offers = hand.offers(hand.piece('H2', 'above'))
-    whole = next(offer for offer in offers if offer.words == '240 kW, finishes H2 and C3')
+    whole = next(offer for offer in offers if offer.words == '240 kW, ticks off H2 above the pinch, finishes C3')
     # It costs no heat, but high-pressure steam in place of low-pressure steam.
     assert (whole.cost, whole.free) == ('2000 price × W more', False)
     steam = [offer for offer in hand.offers(hand.piece('C1', 'below')) if offer.kind == 'utility']

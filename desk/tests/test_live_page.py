@@ -46,7 +46,7 @@ def test_a_drag_makes_an_exchanger_and_the_verdict_follows(page: LivePage, desk:
 @pytest.mark.long
 def test_the_cost_stands_beside_the_pointer_before_the_drop(page: LivePage) -> None:
     page.drag(page.piece('S1', '120'), page.piece('S3', '137.5'), drop=False)
-    page.until(lambda: '120 kW, finishes S1' in page.text('#hint') and 'costs nothing' in page.text('#hint'))
+    page.until(lambda: '120 kW, ticks off S1' in page.text('#hint') and 'costs nothing' in page.text('#hint'))
     assert len(page.all('.piece.partner')) > 1
     page.press(Keys.ESCAPE)
     page.until(lambda: not page.text('#hint'))

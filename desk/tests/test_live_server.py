@@ -42,8 +42,10 @@ def test_offers_ways_and_the_slider_are_answered(server: Served) -> None:
     piece = next(pill['id'] for pill in view['grid']['pieces'] if pill['stream'] == 'S1')
     version = view['version']
     offers = asked(server, 'POST', at(server, 'offers'), {'version': version, 'piece': piece}).json['offers']
-    assert offers[0]['words'] == '120 kW, finishes S1' and offers[0]['cost'] == 'costs nothing (S3 at its cold end)'
-    assert asked(server, 'POST', at(server, 'ways'), {'version': version}).json == {'ways': []}
+    assert offers[0]['words'] == '120 kW, ticks off S1 above the pinch'
+    assert offers[0]['cost'] == 'costs nothing (S3 at its cold end)'
+    for more in ({}, {'exchanger': 'E1'}, {'exchanger': 1}):
+        assert asked(server, 'POST', at(server, 'ways'), {'version': version, **more}).json == {'ways': [], 'more': ''}
     slider = asked(server, 'POST', at(server, 'slider'), {'version': version, 'difference': '25'}).json
     assert (slider['target_hot'], slider['target_cold']) == ('135', '67.5')
     refused = asked(server, 'POST', at(server, 'slider'), {'version': version, 'difference': 'wide'}).json

@@ -9,7 +9,7 @@ from hypothesis import given
 from hypothesis import strategies as some
 from live_desk import Hand, bench_of
 
-from pinchdesk.live.view import WayOffer, WaysFound
+from pinchdesk.live.view import WayOffer
 from pinchdesk.live.way_finding import found_ways
 from pinchdesk.live.ways import MOST_WAYS
 
@@ -18,14 +18,8 @@ UTILITIES = ('HOT', 'MP', 'COLD')
 PAIRS = [(hot, cold) for hot in HOTS for cold in COLDS if {hot, cold} - set(UTILITIES)]
 
 
-def ways_of(hand: Hand, exchanger: str | None = None) -> WaysFound:
-    found = hand.bench.ways(hand.view.version, exchanger)
-    assert isinstance(found, WaysFound)
-    return found
-
-
 def way(hand: Hand, text: str) -> WayOffer:
-    return next(found for found in ways_of(hand).ways if found.text == text)
+    return next(found for found in hand.ways() if found.text == text)
 
 
 def is_way(pairs: dict[str, tuple[str, str]], names: tuple[str, ...]) -> bool:
@@ -58,7 +52,7 @@ def test_all_loops_and_paths_are_found(drawn: list[tuple[str, str]]) -> None:
 def test_a_second_path_is_listed_and_goes_back_to_the_target_in_one_move(tmp_path: Path) -> None:
     """Of `tc3` 15 kW lie on the path by E4; what was moved comes back by it."""
     hand = Hand(bench_of(tmp_path, 'tc3', 'tc3-network.txt'))
-    paths = [found for found in ways_of(hand).ways if found.kind == 'path']
+    paths = [found for found in hand.ways() if found.kind == 'path']
     assert {found.text for found in paths if len(found.legs) == 3} == {
         'HOT (+H3) S3 (-E1) S1 (+C1) COLD', 'HOT (+H3) S3 (-E4) S1 (+C1) COLD'}
     assert all(found.cost.startswith('costs as much') and not found.first for found in paths if found.most)
@@ -72,7 +66,7 @@ def test_a_second_path_is_listed_and_goes_back_to_the_target_in_one_move(tmp_pat
 
 def test_a_break_tells_its_cost_and_what_is_too_close_then(tmp_path: Path) -> None:
     hand = Hand(bench_of(tmp_path, 'tc3', 'tc3-network.txt'))
-    told = {found.breaks for found in ways_of(hand).ways}
+    told = {found.breaks for found in hand.ways()}
     assert 'E4 goes (20 kW), costs nothing; E1 too close at its cold end then' in told
 
 
@@ -106,7 +100,7 @@ def test_each_exchanger_that_is_too_close_is_marked_and_paths_say_what_they_mend
     close = {name for name, row in rows.items() if row.difference and float(row.difference) < float(row.wanted)}
     assert close == {name for name, row in rows.items() if row.fault} == {'E1', 'E2', 'E3'}
     assert view.grid and {bar.name for bar in view.grid.exchangers if bar.fault} == close
-    found = ways_of(hand).ways
+    found = hand.ways()
     assert any(path.kind == 'path' and path.mends and path.leaves for path in found)
     for path in found:
         if not path.mends:

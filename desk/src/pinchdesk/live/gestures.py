@@ -12,11 +12,12 @@ from ..analysis.unfinished import OPEN
 from ..errors import DeskError
 from ..formats.case import ANY_HEAT, Side, Utility
 from ..formats.shown import Shown
+from ..formats.whole_streams import whole_name
 from ..search.reduce.structure import Course, Lane, Parting, Through, throughs
 from .kinks import joined_with, placed_along
 from .pieces import (HandPlan, changed, fresh_open, merged, named, neighbours, pair_with, replaced,
                      side_at, without_idle_partings)
-from .seats import Seat, seated, seatings, settled
+from .seats import Seat, may_meet, most_of, seated, seatings, settled, source_of
 
 NAME = re.compile('[A-Za-z0-9][A-Za-z0-9_-]{0,15}')
 
@@ -39,7 +40,7 @@ def known(plan: HandPlan, exchanger: str) -> str:
 def open_piece(plan: HandPlan, piece: str) -> str:
     """The name of an open piece; `NotDone` where there is none."""
     if piece not in plan.pairs or not plan.is_open(piece):
-        raise NotDone(f'{piece} is no open piece.')
+        raise NotDone('This piece is not open any more.')
     return piece
 
 
@@ -63,14 +64,31 @@ def place(plan: HandPlan, piece: str, partner: str, seats: tuple[Seat, Seat] | N
     found = [chosen for chosen in seatings(plan, hot, cold, duty)
              if seats is None or (chosen.hot_seat, chosen.cold_seat) == seats]
     if not found:
-        raise NotDone(f'{partner} and {piece} come too close to one another there, or may not exchange heat.',
-                      ('piece', piece), ('piece', partner))
+        raise NotDone(cannot_meet(plan, hot, cold), ('piece', piece), ('piece', partner))
     chosen = max(found, key=lambda seating: seating.duty)
     if duty is not None and chosen.duty != duty:
         shown = Shown(plan.case.basis)
         raise NotDone(f'No more than {shown.heat(chosen.duty)} {shown.heat_unit} can be placed there.',
                       ('piece', piece))
     return seated(plan, chosen) if duty is not None else placed_along(plan, chosen, pinches)
+
+
+def cannot_meet(plan: HandPlan, hot: str, cold: str) -> str:
+    """Why two pieces, or a piece and a utility, exchange no heat."""
+    shown = Shown(plan.case.basis)
+    if not may_meet(plan, hot, cold):
+        return f'{source_of(plan, hot)} and {source_of(plan, cold)} may not exchange heat: the case forbids it.'
+    for name in (hot, cold):
+        if not most_of(plan, name):
+            return f'{name} has no more.'
+    sides = []
+    for name in (hot, cold):
+        source = plan.sources[source_of(plan, name)]
+        ends = (Fraction(source.level),) if isinstance(source, Utility) else plan.piece(name).ends
+        told = ' → '.join(map(shown.temperature, dict.fromkeys(ends)))
+        sides.append(f'{whole_name(plan.case, source.name)} ({told} {shown.temperature_unit})')
+    approach = sum(plan.sources[source_of(plan, name)].contribution for name in (hot, cold))
+    return f'{sides[0]} cannot heat {sides[1]}: {shown.with_degrees(approach)} are needed between them.'
 
 
 def take_away(plan: HandPlan, exchanger: str) -> HandPlan:
@@ -122,9 +140,18 @@ def with_duty(plan: HandPlan, exchanger: str, duty: Fraction, pinches: Sequence[
             if keeps_approach(made, exchanger):
                 return settled(made)
     best = max(largest_resized(plan, exchanger, anchors, most) for anchors in orders)
-    told = f'{exchanger} can have at most {shown.heat(best)} {shown.heat_unit} here.' if best else \
+    best = max(best, plan.duties[exchanger] if keeps_approach(plan, exchanger) else Fraction(0))
+    why = no_more(plan, exchanger) if best == most else 'it would come too close with more'
+    told = f'{exchanger} can have at most {shown.heat(best)} {shown.heat_unit} here: {why}.' if best else \
         f'{exchanger} would come too close at this duty.'
     raise NotDone(told, ('exchanger', exchanger))
+
+
+def no_more(plan: HandPlan, exchanger: str) -> str:
+    """What has no more heat for an exchanger, in words."""
+    rooms = rooms_of(plan, exchanger)
+    names = [whole_name(plan.case, name) for name, room in rooms.items() if room == min(rooms.values())]
+    return f'{" and ".join(names)} {"has" if len(names) == 1 else "have"} no more beside it'
 
 
 def grown(plan: HandPlan, exchanger: str, pinches: Sequence[PinchPoint]) -> HandPlan:
@@ -152,17 +179,22 @@ def anchorings(plan: HandPlan, exchanger: str, pinches: Sequence[PinchPoint]) ->
 
 
 def room_of(plan: HandPlan, exchanger: str) -> Fraction:
-    """The largest duty for which there is heat: its own and what is open beside it, on each stream, and what a utility
-    still has."""
-    rooms = []
+    """The largest duty for which there is heat on both sides."""
+    return min(rooms_of(plan, exchanger).values())
+
+
+def rooms_of(plan: HandPlan, exchanger: str) -> dict[str, Fraction]:
+    """For how large a duty there is heat, by sources: its own and what is open beside it, on each stream, and what a
+    utility still has."""
+    rooms: dict[str, Fraction] = {}
     utility = plan.utility_of(exchanger)
     if utility is not None and utility.most != ANY_HEAT:
-        rooms.append(utility.most - plan.used(True)[utility.name] + plan.duties[exchanger])
+        rooms[utility.name] = utility.most - plan.used(True)[utility.name] + plan.duties[exchanger]
     for stream in plan.streams_of(exchanger):
         before, behind = neighbours(plan, plan.structure.courses[stream.name], exchanger)
-        rooms.append(plan.duties[exchanger] + sum((plan.duties[name] for name in (before, behind) if name),
-                                                  Fraction(0)))
-    return min(rooms)
+        open_beside = (plan.duties[name] for name in (before, behind) if name)
+        rooms[stream.name] = plan.duties[exchanger] + sum(open_beside, Fraction(0))
+    return rooms
 
 
 def resized(plan: HandPlan, exchanger: str, duty: Fraction, anchors: Anchors) -> list[HandPlan]:

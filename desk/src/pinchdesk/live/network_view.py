@@ -12,7 +12,7 @@ from .areas import Areas
 from .faults import rejection_told
 from .grid_view import Lines, place_of
 from .judgement import Reachable, Stand, Whole, count_placed, money
-from .pieces import HandPlan
+from .pieces import HandPlan, cut
 from .view import ExchangerRow, Judgement, ScoreView
 
 
@@ -45,7 +45,8 @@ def judgement_of(standing: Standing) -> Judgement:
         return Judgement('faulty', 'Too fine', 'A number has more digits than can be judged: choose rounder duties or '
                          'shares.')
     if plan.open:
-        count = len(plan.open)
+        # As many as the grid has dashed ones.
+        count = len(cut(plan, standing.whole.pinches).open)
         told = f'{count} open piece{"s" if count > 1 else ""}; what is placed is right. {reach_told(standing, shown)}'
         return Judgement('unfinished', 'Unfinished', told.strip())
     assert isinstance(stand.verdict, Accepted)

@@ -8,7 +8,7 @@ from contextlib import suppress
 from dataclasses import dataclass, replace
 from fractions import Fraction
 
-from ..analysis.follow import PinchPoint
+from ..analysis.follow import PinchPoint, PinchSide
 from ..formats.case import Side
 from ..formats.shown import Shown
 from ..formats.whole_streams import whole_name
@@ -17,13 +17,14 @@ from .gestures import NotDone, open_piece
 from .judgement import Reachable, money, reachable
 from .kinks import placed_along
 from .moving import move_end, own_pairs
-from .pieces import HandPlan, utilities_for
+from .pieces import HandPlan, cut, side_at, utilities_for
 from .seats import Seat, Seated, seatings
 from .view import Offer
 
 ASKED_AT_ONCE = 4
 # Of each partner at most so many ways are priced: those with the largest duties.
 MOST_WAYS = 6
+BESIDE = {PinchSide.ABOVE: 'above', PinchSide.BELOW: 'below'}
 
 
 @dataclass(frozen=True)
@@ -63,7 +64,7 @@ def offers_of(pinch: Pinch, plan: HandPlan, piece: str, before: Reachable | None
     offers = [PricedOffer(chosen, partner, placed, found)
               for (partner, chosen), placed, found in zip(ways, made, after)]
     offers.sort(key=lambda offer: rank(plan, offer, before))
-    return tuple(told(plan, piece, offer, before) for offer in offers)
+    return tuple(told(plan, piece, offer, before, pinches) for offer in offers)
 
 
 @dataclass(frozen=True)
@@ -150,12 +151,13 @@ def priced(shown: Shown, after: Reachable | None, before: Reachable | None) -> t
     return price, cost == 0 and not more
 
 
-def told(plan: HandPlan, piece: str, offer: PricedOffer, before: Reachable | None) -> Offer:
+def told(plan: HandPlan, piece: str, offer: PricedOffer, before: Reachable | None,
+         pinches: Sequence[PinchPoint]) -> Offer:
     """An offer in words."""
     shown, chosen = Shown(plan.case.basis), offer.chosen
     heat = sum((offer.made.duties[name] for name in offer.made.placed if name not in plan.pairs), Fraction(0))
     duty = f'{shown.heat(heat)} {shown.heat_unit}'
-    ended = [ended_name(plan, offer.made, name) for name in (chosen.hot, chosen.cold) if ends_piece(plan, name, chosen)]
+    ended = [name for name in (chosen.hot, chosen.cold) if ends_piece(plan, name, chosen)]
     price, free = priced(shown, offer.after, before)
     sides = ((chosen.hot, chosen.hot_seat), (chosen.cold, chosen.cold_seat))
     seats = ', '.join(where(plan, name, seat) for name, seat in sides
@@ -164,19 +166,27 @@ def told(plan: HandPlan, piece: str, offer: PricedOffer, before: Reachable | Non
     is_utility = partner in plan.utilities
     gesture = {'kind': 'place', 'piece': piece, 'partner': partner, 'hot_seat': chosen.hot_seat.value,
                'cold_seat': chosen.cold_seat.value}
-    words = duty + (f', finishes {" and ".join(ended)}' if ended else '')
+    words = ', '.join((duty, *ended_told(plan, offer.made, ended, pinches)))
     return Offer(partner, 'utility' if is_utility else 'piece',
                  partner if is_utility else whole_name(plan.case, plan.piece(partner).stream.name), shown.heat(heat),
                  words,
                  price + (f' ({seats})' if seats else ''), free, bool(ended), gesture)
 
 
-def ended_name(plan: HandPlan, made: HandPlan, piece: str) -> str:
-    """What a piece finishes: the stream, or of one in segments this one where others are still open."""
-    segment = plan.piece(piece).stream.name
-    whole = whole_name(plan.case, segment)
-    is_open = any(whole_name(plan.case, made.piece(name).stream.name) == whole for name in made.open)
-    return segment if is_open else whole
+def ended_told(plan: HandPlan, made: HandPlan, ended: Sequence[str], pinches: Sequence[PinchPoint]) -> list[str]:
+    """What is done when some pieces are, in words: whole streams, or what of them was open on a side of the pinch."""
+    names: dict[str, list[str]] = {}
+    left = cut(made, pinches) if ended else made
+    for piece in ended:
+        whole, side = whole_name(plan.case, plan.piece(piece).stream.name), side_at(plan, piece, pinches)
+        still = [name for name in left.open if whole_name(plan.case, left.piece(name).stream.name) == whole]
+        if not still:
+            names.setdefault('finishes {}', []).append(whole)
+        elif len(pinches) == 1 and side in BESIDE and all(side_at(left, name, pinches) is not side for name in still):
+            names.setdefault(f'ticks off {{}} {BESIDE[side]} the pinch', []).append(whole)
+        else:
+            names.setdefault('ticks off this piece of {}', []).append(whole)
+    return [words.format(' and '.join(streams)) for words, streams in names.items()]
 
 
 def ends_piece(plan: HandPlan, name: str, chosen: Seated) -> bool:

@@ -36,6 +36,11 @@ class Reach:
         return self.temperature(self.behind)
 
     @property
+    def ends(self) -> tuple[Fraction, Fraction]:
+        """The temperatures before and behind."""
+        return self.inlet, self.outlet
+
+    @property
     def heat(self) -> Fraction:
         return self.size * abs(self.behind - self.before)
 

@@ -28,30 +28,8 @@ What the page asks, below `/TOKEN/`:
   or both (`other` of the gesture), the best first. The same for 409.
 - WebSocket `changes`: a JSON number, the version, whenever it has changed (and once at the beginning).
 
-All POSTs want `Content-Type: application/json`. Whatever is wrong with the address is 404.
-
-Gestures (`exchanger`, `piece`, `stream`, `utility` are the `name`s or `id`s of the view; a heat is a text as typed, in
-the heat unit of the case; `?` may be left out):
-
-- `place {piece, partner, duty?, hot_seat?, cold_seat?}`: `partner` is another piece or a utility; an `Offer` has all.
-- `take {exchanger}`: it becomes open. `grow {exchanger}`: as large as it can be. `duty {exchanger, heat}`.
-- `utility {piece, utility?}`: the piece is served by that utility, or by the cheapest that reaches; `finish {by?}`: all
-  are; with `by` `parts` by the cheapest at each temperature, so that a piece may take several.
-- `change {exchanger, utility}`: a heater or a cooler takes another utility.
-- `split {piece, share?}`: a lane of this share in percent (50 unless said) beside the piece; `shares {joint, shares}`:
-  the shares of all lanes of a joint in percent, as texts; `join {joint}`: the lanes of a joint, without exchangers but
-  for one lane, are one again.
-- `move {exchanger, piece, other?}`: the end of the exchanger on the side of the piece is moved to there, and the other
-  end to another piece.
-- `rename {exchanger, name}`. `hold {}`: a network that can be changed by its text alone becomes one for the hand.
-- `shift {way, heat}` along a way, `break {way}`: so far that its smallest exchanger goes.
-- `difference {difference}`: the least approach, as the slider has it.
-- `cell {row, field, text}`: a field of a stream, utility or forbidden match; `row` is its `row`.
-- `add {what, ..fields}` with `what` `stream` (`name, side, supply, target, flow` or `load, contribution?`), `utility`
-  (`name, side, level, price, least?, most?, contribution?`) or `forbid` (`hot, cold`); `remove {row}`.
-- `texts {case?, network?, told?}`: the texts themselves, as typed, and what the step is called.
-- `keep {name}`: where the case of a table is kept, by a name alone; before it nothing else is done.
-- `undo {}`, `redo {}`, `step {at}`: back or forth to a step."""
+All POSTs want `Content-Type: application/json`. Whatever is wrong with the address is 404. The gestures stand at the
+head of `asked`."""
 from __future__ import annotations
 
 from collections.abc import Mapping

@@ -1,0 +1,53 @@
+"""What the live desk says: in an engineer's words, with the limits and by the names that stand on the grid."""
+from __future__ import annotations
+
+from pathlib import Path
+
+import pytest
+from live_desk import Hand, bench_of
+
+
+@pytest.fixture
+def hand(tmp_path: Path) -> Hand:
+    """`four-stream` with its first exchanger, E1 of 240 kW from H2 to C3."""
+    made = Hand(bench_of(tmp_path, 'four-stream'))
+    made.drops(made.piece('H2', 'above'), made.piece('C3', 'above'))
+    return made
+
+
+def test_a_drop_that_cannot_be_done_names_streams_and_temperatures(tmp_path: Path) -> None:
+    hand = Hand(bench_of(tmp_path, 'four-stream'))
+    told = hand.may_not('place', piece=hand.piece('H2', 'below'), partner=hand.piece('C3', 'above'))
+    assert told == 'H2 (90 → 60 °C) cannot heat C3 (80 → 140 °C): 10 K are needed between them.'
+    hand.does('add', what='forbid', hot='H2', cold='C3')
+    told = hand.may_not('place', piece=hand.piece('H2', 'above'), partner=hand.piece('C3', 'above'))
+    assert told == 'H2 and C3 may not exchange heat: the case forbids it.'
+    hand.does('add', what='utility', name='LP', side='hot', level='100', price='1')
+    told = hand.may_not('place', piece=hand.piece('C3', 'above'), partner='LP', duty='240')
+    assert told == 'No more than 40 kW can be placed there.'
+    hand.does('add', what='utility', name='WATER', side='cold', level='85', price='1')
+    told = hand.may_not('place', piece=hand.piece('H2', 'below'), partner='WATER')
+    assert told == 'H2 (90 → 60 °C) cannot heat WATER (85 °C): 10 K are needed between them.'
+
+
+def test_a_duty_that_is_too_large_is_told_its_limit(hand: Hand) -> None:
+    assert hand.may_not('duty', exchanger='E1', heat='500') == \
+        'E1 can have at most 240 kW here: C3 has no more beside it.'
+    hand.does('take', exchanger='E1')
+    hand.drops(hand.piece('H4', 'above'), hand.piece('C1', 'above'))
+    assert hand.may_not('duty', exchanger='E1', heat='150') == \
+        'E1 can have at most 90 kW here: it would come too close with more.'
+
+
+def test_as_many_open_pieces_are_told_as_the_grid_has(hand: Hand) -> None:
+    grid = hand.view.grid
+    assert grid and len(grid.pieces) == 5 and hand.view.verdict.text.startswith('5 open pieces; ')
+
+
+def test_what_is_ticked_off_is_told_from_what_is_finished(tmp_path: Path) -> None:
+    hand = Hand(bench_of(tmp_path, 'four-stream'))
+    best = {offer.stream: offer.words for offer in reversed(hand.offers(hand.piece('H2', 'above')))}
+    assert best['C3'] == '240 kW, ticks off H2 above the pinch, finishes C3'
+    hand.does('split', piece=hand.piece('C1', 'above'), share='50')
+    words = {offer.words for offer in hand.offers(hand.piece('C1', 'above')) if offer.stream == 'HOT'}
+    assert words == {'55 kW, ticks off this piece of C1'}
