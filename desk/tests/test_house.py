@@ -13,7 +13,7 @@ from conftest import DESK
 SOURCE = DESK / 'src' / 'pinchdesk'
 # From the lowest to the highest; those of one line do not know one another.
 ORDER = (('errors', 'text', 'version'), ('failures', 'formats'), ('program',), ('tables',), ('analysis',), ('costs',),
-         ('search',), ('figures',), ('report',), ('words',), ('batch',), ('plant', 'live'), ('cli',))
+         ('search',), ('figures',), ('report',), ('words',), ('batch',), ('plant', 'live'), ('cli',), ('__main__',))
 LEVEL = {name: level for level, names in enumerate(ORDER) for name in names}
 
 

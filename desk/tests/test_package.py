@@ -114,6 +114,12 @@ def test_the_names_on_top_are_few_and_each_is_loaded_when_it_is_asked_for() -> N
     assert not hasattr(pinchdesk, 'follow_')
 
 
+def test_the_package_is_the_command() -> None:
+    done = subprocess.run([sys.executable, '-m', 'pinchdesk', '--version'], capture_output=True, text=True, check=False,
+                          env={**os.environ, 'PYTHONPATH': str(DESK / 'src')})
+    assert (done.returncode, done.stdout) == (0, f'pinchdesk {pinchdesk.__version__}\n')
+
+
 # What each import may set for the whole process, as a Python of its own tells it before and after.
 IMPORTS = """
 import csv, decimal, locale, os, pkgutil, signal, sys
