@@ -72,7 +72,7 @@ def test_a_screen_reader_has_a_name_for_all_that_can_be_done(opens: Opens, tmp_p
     names = {name for _, name in nodes}
     assert ('status', '') in nodes and 'Grid diagram' in names
     assert 'exchanger E4, S1 to S3, 20 kW, below the pinch' in names
-    assert 'parting of S2: 43.75 %, 56.25 %' in names
+    assert 'split of S2: 43.75 %, 56.25 %' in names
     assert {'supply of S1', 'duty of E4 in kW', 'least approach ΔTmin', 'remove S1'} <= names
     assert any(name.startswith('Composite curves: utilities hot 107.5 kW, cold 40 kW') for name in names)
 

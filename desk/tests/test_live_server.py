@@ -13,7 +13,7 @@ pytest.importorskip('starlette')
 pytest.importorskip('uvicorn')
 websockets = pytest.importorskip('websockets')
 
-from pinchdesk.live.server import Served  # noqa: E402
+from pinchdesk.live.server import NOT_FOUND, Served  # noqa: E402
 
 
 @pytest.fixture(scope='module')
@@ -44,8 +44,9 @@ def test_offers_ways_and_the_slider_are_answered(server: Served) -> None:
     offers = asked(server, 'POST', at(server, 'offers'), {'version': version, 'piece': piece}).json['offers']
     assert offers[0]['words'] == '120 kW, ticks off S1 above the pinch'
     assert offers[0]['cost'] == 'costs nothing (S3 at its cold end)'
-    for more in ({}, {'exchanger': 'E1'}, {'exchanger': 1}):
-        assert asked(server, 'POST', at(server, 'ways'), {'version': version, **more}).json == {'ways': [], 'more': ''}
+    for exchanger in ('E1', 1, None):
+        content = {'version': version, 'exchanger': exchanger}
+        assert asked(server, 'POST', at(server, 'ways'), content).json == {'ways': [], 'more': ''}
     slider = asked(server, 'POST', at(server, 'slider'), {'version': version, 'difference': '25'}).json
     assert (slider['target_hot'], slider['target_cold']) == ('135', '67.5')
     refused = asked(server, 'POST', at(server, 'slider'), {'version': version, 'difference': 'wide'}).json
@@ -53,7 +54,7 @@ def test_offers_ways_and_the_slider_are_answered(server: Served) -> None:
 
 
 def is_nothing(heard: Heard) -> bool:
-    return heard.status == 404 and heard.body == b'Not found'
+    return heard.status == 404 and heard.body == NOT_FOUND.encode()
 
 
 def test_whatever_is_wrong_with_the_address_has_one_answer(server: Served) -> None:
@@ -101,7 +102,7 @@ def test_what_is_no_question_is_not_answered(server: Served, content: bytes) -> 
 def test_other_methods_are_not_answered(server: Served) -> None:
     for method in ('PUT', 'DELETE', 'OPTIONS', 'PATCH', 'TRACE', 'HEAD'):
         heard = asked(server, method, at(server, 'view'))
-        assert heard.status == 404 and heard.body in (b'Not found', b''), method
+        assert heard.status == 404 and heard.body in (NOT_FOUND.encode(), b''), method
 
 
 def test_each_answer_keeps_other_pages_out(server: Served) -> None:

@@ -51,3 +51,32 @@ def test_what_is_ticked_off_is_told_from_what_is_finished(tmp_path: Path) -> Non
     hand.does('split', piece=hand.piece('C1', 'above'), share='50')
     words = {offer.words for offer in hand.offers(hand.piece('C1', 'above')) if offer.stream == 'HOT'}
     assert words == {'55 kW, ticks off this piece of C1'}
+
+
+def test_heaters_and_coolers_have_no_names_like_streams(hand: Hand) -> None:
+    """Of streams H2, H4, C1 and C3; where no stream is called so they are H1 and C1."""
+    rows = hand.does('finish').exchangers
+    assert {row.name for row in rows if row.hot == 'HOT'} == {'HU1'}
+    assert {row.name for row in rows if row.cold == 'COLD'} == {'CU1', 'CU2'}
+
+
+def test_a_cost_without_a_price_is_not_told(hand: Hand) -> None:
+    assert hand.does('finish').score.cost == hand.view.score.floor == ''
+    hand.does('add', what='utility', name='HP', side='hot', level='250', price='3')
+    assert hand.view.score.cost and hand.view.score.floor
+
+
+def test_the_hot_utility_of_a_rejected_network_is_told(tmp_path: Path) -> None:
+    view = Hand(bench_of(tmp_path, 'tc3', 'tc3-network.txt')).does('difference', difference='31.2')
+    assert (view.verdict.kind, view.score.stands_hot, view.score.stands_cold) == ('rejected', '107.5', '40')
+    assert (view.score.target_hot, view.score.reach_hot, view.score.above) == ('169.1', '', '')
+
+
+def test_what_crosses_the_pinch_is_told_beside_the_duty(tmp_path: Path) -> None:
+    hand = Hand(bench_of(tmp_path, 'tc3', 'tc3-network.txt'))
+    hand.does('break', way=next(way.id for way in hand.ways() if way.breaks.startswith('E4 goes')))
+    view = hand.does('shift', way=hand.ways()[0].id, heat='4')
+    assert view.grid
+    bar = next(bar for bar in view.grid.exchangers if bar.name == 'E1')
+    assert (bar.duty, bar.where, bar.crossing) == ('136', 'across', '4')
+    assert bar.text == 'exchanger E1, S1 to S3, 136 kW, across the pinch, carries 4 kW across'

@@ -78,7 +78,10 @@ def score_of(standing: Standing) -> ScoreView:
     units = f'{placed} + {left} = {placed + left}; the rule: {rule}' if left else f'{placed}; the rule: {rule}'
     right = isinstance(standing.stand.placed, Accepted)
     judged = accepted or standing.stand.placed
-    stands_hot = judged.hot if isinstance(judged, Accepted) else None
+    rejected = isinstance(judged, Rejected)
+    stands_hot = judged.hot if isinstance(judged, Accepted) else hot_used(plan) if rejected else None
+    # Where no utility of the case has a price a cost says nothing that the heat does not.
+    priced = accepted if any(utility.price and not utility.invented for utility in plan.case.utilities) else None
     known = right and reach is not None
     reached = reach.most if reach is not None and right else None
     return ScoreView(
@@ -89,8 +92,14 @@ def score_of(standing: Standing) -> ScoreView:
         shown.heat(stands_hot + cold_more) if stands_hot is not None else '',
         shown.heat(max(Fraction(0), reached - whole.targets.hot)) if reached is not None else '',
         bar_of_score(whole, reached, stands_hot), placed, left, rule, units,
-        money(shown, accepted.cost + beside) if accepted else '',
-        money(shown, accepted.floor + beside) if accepted else '', notes_of(standing, known))
+        money(shown, priced.cost + beside) if priced else '',
+        money(shown, priced.floor + beside) if priced else '', notes_of(standing, known))
+
+
+def hot_used(plan: HandPlan) -> Fraction:
+    """The hot utility of a network as it stands, open pieces too, whatever is wrong with it."""
+    used = plan.used()
+    return sum((used[utility.name] for utility in plan.case.utilities if utility.side is Side.HOT), Fraction(0))
 
 
 def notes_of(standing: Standing, known: bool) -> tuple[str, ...]:

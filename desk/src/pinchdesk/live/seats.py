@@ -3,15 +3,20 @@ affine in its duty, so that each end of a range is exact."""
 from __future__ import annotations
 
 import enum
+import re
 from collections.abc import Iterator, Mapping
 from dataclasses import dataclass
 from fractions import Fraction
 from itertools import product
 
-from ..formats.case import ANY_HEAT, Side, Utility
+from ..formats.case import ANY_HEAT, Case, Side, Utility
 from ..search.reduce.moves import letter_of, next_name, taken_names
 from ..search.reduce.structure import Course, Lane, Parting, Through
 from .pieces import HandPlan, Reach, changed, fresh_open, merged, named, replaced
+
+
+# How exchangers, heaters and coolers are named where streams have their letters.
+LETTERS = {'E': 'HX', 'H': 'HU', 'C': 'CU'}
 
 
 class Seat(enum.Enum):
@@ -146,7 +151,7 @@ def whole_seat(plan: HandPlan, name: str, seat: Seat, duty: Fraction) -> Seat:
 def seated(plan: HandPlan, chosen: Seated, name: str | None = None) -> HandPlan:
     """The plan with an exchanger in its seats, settled."""
     pair = (source_of(plan, chosen.hot), source_of(plan, chosen.cold))
-    made = name or next_name(taken_names(plan.case, plan.structure), letter_of(plan.case, pair))
+    made = name or next_name(taken_names(plan.case, plan.structure), letters_of(plan.case, pair))
     courses: dict[str, Course] = dict(plan.structure.courses)
     duties, pairs = dict(plan.duties), dict(plan.pairs)
     taken = set(plan.pairs)
@@ -161,6 +166,13 @@ def seated(plan: HandPlan, chosen: Seated, name: str | None = None) -> HandPlan:
         pairs[rest], duties[rest] = plan.pairs[piece], reach.heat - chosen.duty
     pairs[made], duties[made] = pair, chosen.duty
     return settled(changed(plan, courses, pairs, duties))
+
+
+def letters_of(case: Case, pair: tuple[str, str]) -> str:
+    """With what the name of an exchanger begins: a heater's with H, but with HU where streams are called H1 or H2."""
+    letter = letter_of(case, pair)
+    alike = re.compile(f'{letter}[0-9]+', re.IGNORECASE)
+    return LETTERS[letter] if any(alike.fullmatch(source.name) for source in case.sources) else letter
 
 
 def course_with(reach: Reach, seat: Seat, duty: Fraction, made: str, rest: str) -> Course:

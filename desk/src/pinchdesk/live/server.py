@@ -37,6 +37,7 @@ LOOKS = 0.5
 PICTURES = {f'picture/{name}.svg': name for name in ('grid', 'curves', 'area', 'driving')}
 SEARCHED = ('seconds', 'above')
 FIRST_PORT, PORTS = 20_000, 12_000
+NOT_FOUND = 'Not found. A live desk that was opened anew has a new address, which it told where it was called.'
 Receive = Callable[[], Awaitable[Any]]
 Send = Callable[[Any], Awaitable[None]]
 
@@ -55,7 +56,7 @@ def answer(content: object, status: int = 200) -> Response:
 
 def nothing() -> Response:
     """The one answer to all that is wrong."""
-    return Response('Not found', 404, media_type='text/plain')
+    return Response(NOT_FOUND, 404, media_type='text/plain')
 
 
 class LiveDesk:

@@ -27,7 +27,7 @@ class FoundWays:
 
 
 @dataclass(frozen=True)
-class Edge:
+class RoundEdge:
     """An exchanger between two sources, or without a name the way from a utility to the place outside."""
 
     exchanger: str
@@ -39,7 +39,7 @@ class Edge:
 
 
 @dataclass(frozen=True)
-class Begun:
+class BegunRound:
     """The beginning of a round: its edges, of which the first is its root, where it is, and what it has passed."""
 
     edges: tuple[int, ...]
@@ -62,9 +62,9 @@ class Rounds:
 
     def __init__(self, pairs: Mapping[str, tuple[str, str]], utilities: Sequence[str], through: str | None) -> None:
         self.utilities, self.through = list(utilities), through
-        self.edges = [Edge(name, *pair) for name, pair in pairs.items()]
+        self.edges = [RoundEdge(name, *pair) for name, pair in pairs.items()]
         self.count = len(self.edges)
-        self.edges += [Edge('', utility, OUTSIDE) for utility in utilities]
+        self.edges += [RoundEdge('', utility, OUTSIDE) for utility in utilities]
         self.at: dict[str, list[int]] = {}
         for number, edge in enumerate(self.edges):
             for source in (edge.hot, edge.cold):
@@ -73,7 +73,7 @@ class Rounds:
 
     def found(self) -> Iterator[tuple[int, ...]]:
         """The edges of each round, those of the fewest exchangers first."""
-        waiting: list[tuple[int, int, Begun]] = []
+        waiting: list[tuple[int, int, BegunRound]] = []
         far: dict[int, Mapping[str, int]] = {}
         begun = 0
         for root, edge in enumerate(self.edges[:self.count]):
@@ -81,7 +81,7 @@ class Rounds:
                 far[root] = self.distances(root)
                 if edge.cold in far[root]:
                     begun += 1
-                    first = Begun((root,), edge.cold, frozenset((edge.cold,)))
+                    first = BegunRound((root,), edge.cold, frozenset((edge.cold,)))
                     heappush(waiting, (1 + far[root][edge.cold], begun, first))
         while waiting:
             _, _, way = heappop(waiting)
@@ -98,24 +98,24 @@ class Rounds:
                 self.is_cut = True
                 return
 
-    def further(self, way: Begun) -> Iterator[Begun]:
+    def further(self, way: BegunRound) -> Iterator[BegunRound]:
         """The beginnings with one edge more."""
         for number in self.at[way.at]:
             beyond = self.edges[number].beyond(way.at)
             if self.may_follow(way.edges[0], number) and beyond not in way.passed:
-                made = Begun((*way.edges, number), beyond, way.passed | {beyond})
+                made = BegunRound((*way.edges, number), beyond, way.passed | {beyond})
                 if not self.passes_utility(made):
                     yield made
 
     def may_follow(self, root: int, number: int) -> bool:
         return number > root or self.through is not None and number != root
 
-    def passes_utility(self, way: Begun) -> bool:
+    def passes_utility(self, way: BegunRound) -> bool:
         """Whether a path leads through a utility on its way, so that it is two paths."""
         ends = {self.edges[number].hot for number in way.edges if number >= self.count}
         return bool(ends) and not way.passed.intersection(self.utilities) <= ends
 
-    def length(self, way: Begun) -> int:
+    def length(self, way: BegunRound) -> int:
         return sum(number < self.count for number in way.edges)
 
     def distances(self, root: int) -> Mapping[str, int]:
@@ -144,7 +144,7 @@ class Rounds:
         return Shift(Fraction(0), begin.hot, alternating(path, begin.hot), False)
 
 
-def alternating(edges: Sequence[Edge], begin: str) -> tuple[Leg, ...]:
+def alternating(edges: Sequence[RoundEdge], begin: str) -> tuple[Leg, ...]:
     """Exchangers of which the first gains, the next loses, and so on, with the source behind each."""
     legs: list[Leg] = []
     source = begin

@@ -70,13 +70,13 @@ class WayWords:
             costs = f'{self.shown.heat(ranged.least)} {unit} {first.told(self.shown)}, {costs}'
         return costs, change.sign < 0
 
-    def change(self, ranged: Ranged, heat: Fraction) -> Change:
+    def change(self, ranged: Ranged, heat: Fraction) -> WayCost:
         """What changes where so much is moved. Where nothing is open it is what the utilities give more or less."""
         if self.plan.open:
-            return Change(self.before, reachable(self.pinch, moved(self.plan, ranged.way, heat)))
+            return WayCost(self.before, reachable(self.pinch, moved(self.plan, ranged.way, heat)))
         before, hot, paid = self.before, Fraction(0), Fraction(0)
         if before is None:
-            return Change(None, None)
+            return WayCost(None, None)
         for leg in ranged.way.legs:
             utility = self.plan.utility_of(leg.exchanger)
             more = heat if leg.gains else -heat
@@ -84,7 +84,7 @@ class WayWords:
                 hot += more if utility.side is Side.HOT else 0
                 paid += more * utility.price
         cost = None if before.cost is None else before.cost + paid
-        return Change(before, Reachable(before.least + hot, before.most + hot, cost))
+        return WayCost(before, Reachable(before.least + hot, before.most + hot, cost))
 
     def breaks(self, ranged: Ranged) -> str:
         """What goes where a loop is broken, what that costs, and what is too close then."""
@@ -94,7 +94,7 @@ class WayWords:
 
 
 @dataclass(frozen=True)
-class Change:
+class WayCost:
     """What can be reached before and after something is done; None where that is not known."""
 
     before: Reachable | None

@@ -1,4 +1,4 @@
-// The panel of what is chosen in the diagram: the partners of an open piece, an exchanger, a parting.
+// The panel of what is chosen in the diagram: the partners of an open piece, an exchanger, a split.
 
 import { asks, fill, keyed, make } from './dom.js';
 import { partnersOf } from './grid_marks.js';
@@ -105,7 +105,7 @@ export class ChosenPart {
       'data-key': `share ${at}`,
     }));
     return [
-      title(`Parting of ${joint.stream}`),
+      title(`Split of ${joint.stream}`),
       make('form', {
         class: 'tools', submit: (/** @type {Event} */ event) => {
           event.preventDefault();
@@ -275,17 +275,27 @@ function movesContent(name, state, actions) {
 function facts(name, view) {
   const row = view.exchangers.find(found => found.name === name);
   if (!row) return null;
-  const { difference, temperature } = view.units;
+  const { difference, temperature, heat } = view.units;
+  const crossing = view.grid?.exchangers.find(bar => bar.name === name)?.crossing ?? '';
   /** @type {[string, string][]} */
   const lines = [
     ['hot side', `${row.hot_in} → ${row.hot_out} ${temperature}`],
     ['cold side', `${row.cold_in} → ${row.cold_out} ${temperature}`],
-    ['least difference', `${row.difference} ${difference}, needed ${row.wanted}`],
-    ['pinch', row.where || 'there is none'],
-    ['loses', row.loss], ['area', row.area],
+    ['least difference', row.difference && `${row.difference} ${difference}, needed ${row.wanted}`],
+    ['pinch', pinchText(row.where, crossing, heat)],
+    ['of the excess', row.loss && `${row.loss} ${heat}`], ['area', row.area],
   ];
   return make('dl', {}, ...lines.filter(([, text]) => text)
     .flatMap(([word, text]) => [make('dt', {}, word), make('dd', {}, text)]));
+}
+
+/**
+ * @param {string} where
+ * @param {string} crossing
+ * @param {string} heat
+ */
+function pinchText(where, crossing, heat) {
+  return !where ? 'there is none' : where + (crossing && `, ${crossing} ${heat} of its duty`);
 }
 
 /**

@@ -118,11 +118,12 @@ export function lowerEnd(bar) {
 }
 
 /**
- * The duty with a sign where the exchanger is wrong or works across a pinch: not by its colour alone.
+ * The duty, with a sign where the exchanger is wrong, and with what it carries across a pinch: not by its colour alone.
  * @param {ExchangerBar} bar
  */
 export function dutyText(bar) {
-  return (bar.fault ? '⚠ ' : bar.where === 'across' ? '↯ ' : '') + bar.duty;
+  const across = bar.where === 'across' ? ` (↯${bar.crossing && ` ${bar.crossing}`})` : '';
+  return (bar.fault ? '⚠ ' : '') + bar.duty + across;
 }
 
 /** @param {import('./contract.js').OpenPill} piece */

@@ -1,4 +1,4 @@
-// The shapes of the grid diagram: streams, partings, exchangers, open pieces, pinches.
+// The shapes of the grid diagram: streams, splits, exchangers, open pieces, pinches.
 
 import { draw, textWidth } from './dom.js';
 import { dutyText, lowerEnd, pieceText } from './geometry.js';
@@ -41,7 +41,7 @@ export function pinchShape(pinch, level, at) {
   const band = pinch.end - pinch.begin > 1 && draw('rect', {
     class: 'band', x: round(at.x(pinch.begin)), y: top, width: round(at.pitch * (pinch.end - pinch.begin)),
     height: bottom - top,
-  });
+  }, draw('title', {}, 'here stands what works across the pinch'));
   return draw('g', { class: 'pinch' }, band,
     draw('line', { x1: round(x), y1: top, x2: round(x), y2: bottom }),
     write(middle, top - (6 + 15 * level) * at.scale, pinch.text, { 'text-anchor': 'middle' }));
@@ -125,7 +125,7 @@ export function jointShape(joint, side, at) {
   const x = at.x(joint.x), first = at.y(joint.first), last = at.y(joint.last);
   const named = joint.id ? {
     'data-joint': joint.id, 'data-key': `joint ${joint.id} ${joint.x}`, role: 'button', tabindex: -1,
-    'aria-label': `parting of ${joint.stream}: ${joint.shares.map(share => `${share} %`).join(', ')}`,
+    'aria-label': `split of ${joint.stream}: ${joint.shares.map(share => `${share} %`).join(', ')}`,
   } : {};
   return draw('g', { class: `joint ${side}`, ...named },
     draw('line', { class: 'touch', x1: round(x), y1: first, x2: round(x), y2: last }),
@@ -149,6 +149,7 @@ export function exchangerShape(exchanger, grid, at) {
     'data-exchanger': exchanger.name, 'data-key': `exchanger ${exchanger.name}`, role: 'button', tabindex: -1,
     'aria-label': exchanger.text,
   },
+  draw('title', {}, exchanger.text),
   draw('path', { class: 'touch', d: way }), draw('path', { class: 'bar', d: way }),
   endShape(exchanger.name, x, y, 'hot', at), endShape(exchanger.name, u, v, 'cold', at),
   write(at.x(low.x), at.y(low.y) + at.radius + 12 * at.scale, dutyText(exchanger), {
@@ -183,6 +184,7 @@ export function pieceShape(piece, at) {
     role: 'button', tabindex: -1, 'aria-haspopup': 'true',
     'aria-label': piece.text,
   },
+  draw('title', {}, piece.text),
   draw('rect', {
     x: round(x - wide / 2), y: round(y - at.radius), width: round(wide), height: 2 * at.radius, rx: at.radius,
   }),

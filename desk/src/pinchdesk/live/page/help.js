@@ -7,10 +7,10 @@ const KEYS = [
   ['Tab', 'goes from part to part; the diagram is one of them'],
   ['← → ↑ ↓', 'in the diagram: from place to place'],
   ['Home, End', 'in the diagram: to the first open piece, to the last place'],
-  ['Enter', 'on an open piece: its partners, the best first; on an exchanger: its duty; on a parting: its shares'],
+  ['Enter', 'on an open piece: its partners, the best first; on an exchanger: its duty; on a split: its shares'],
   ['m', 'on an exchanger: as large as it can be'],
   ['e', 'on an exchanger: to where its ends can be moved, one or both'],
-  ['Delete', 'on an exchanger: takes it away; on a parting: joins the branches'],
+  ['Delete', 'on an exchanger: takes it away; on a split: joins the branches'],
   ['u', 'on an open piece: served by the cheapest utility that reaches'],
   ['U', 'all that is open is served by utilities'],
   ['s', 'on an open piece: splits the stream'],
@@ -31,6 +31,8 @@ export function helpPart(place) {
       + 'other side, or to a utility: before it is dropped, the page says how large the exchanger becomes and what it '
       + 'costs. Begin at the pinch and go away from it. An end of an exchanger can be dragged to another open '
       + 'piece of its side, and the whole of it, by its bar, along its two streams.'),
+    make('p', {}, 'The grey band holds what works across the pinch: such an exchanger is dashed, and behind its duty '
+      + 'stands how much of it crosses: 136 (↯ 4). What is rejected has a ⚠.'),
     make('p', {}, 'Each step is judged by the program and saved in the two files at once. Undo takes back any.'),
     make('dl', {}, ...KEYS.flatMap(([key, words]) => [make('dt', {}, make('kbd', {}, key)), make('dd', {}, words)])),
     make('form', { method: 'dialog' }, make('button', {}, 'close')));

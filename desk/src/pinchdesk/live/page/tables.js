@@ -12,7 +12,7 @@ const COLUMNS = [
   ['name', 'exchanger', false], ['hot', 'hot', false], ['cold', 'cold', false], ['duty', 'duty', true],
   ['hot_in', 'hot in', true], ['hot_out', 'hot out', true], ['cold_in', 'cold in', true],
   ['cold_out', 'cold out', true], ['difference', 'least difference', true], ['wanted', 'needed', true],
-  ['where', 'pinch', false], ['loss', 'loses', true], ['area', 'area', true], ['fault', 'fault', false],
+  ['where', 'pinch', false], ['loss', 'of the excess', true], ['area', 'area', true], ['fault', 'fault', false],
 ];
 
 /**

@@ -82,8 +82,8 @@ export function lostPart() {
     place.className = state.closed ? 'closed' : '';
     place.textContent = state.closed ? 'The desk is closed. All that was done is in the two files.'
       : state.elsewhere ? 'The desk goes on in the window that was opened last, with these steps.'
-      : state.lost ? 'The desk does not answer. All that was done is in the two files: call “pinchdesk open” again, '
-        + 'and look at the page that it opens.' : '';
+      : state.lost ? 'The desk does not answer. All that was done is in the two files: leave this tab open, call '
+        + '“pinchdesk open” again, and go on in the page that it opens, which gets the steps from here.' : '';
     document.body.classList.toggle('is-lost', gone);
   };
 }
