@@ -17,7 +17,7 @@ OFTEN = 0.5
 
 
 @dataclass(frozen=True)
-class Part:
+class FurtherPart:
     """What an exchanger is to get: a part on the segment beyond a kink, at the end of it that is there, and next to the
     exchanger on its other side. It is `behind` where it is towards the cold end."""
 
@@ -26,7 +26,7 @@ class Part:
     behind: bool
 
 
-def parts_of(kinks: Kinks, structure: Structure) -> Iterator[Part]:
+def parts_of(kinks: Kinks, structure: Structure) -> Iterator[FurtherPart]:
     """The parts that exchangers may get."""
     for before, behind in kinks.kinks:
         last = kinks.from_hot_end(before, structure.courses[before])[-1:]
@@ -34,7 +34,7 @@ def parts_of(kinks: Kinks, structure: Structure) -> Iterator[Part]:
         for ends, segment, is_behind in ((last, behind, True), (first, before, False)):
             for step in ends:
                 if isinstance(step, Through):
-                    yield Part(step.exchanger, segment, is_behind)
+                    yield FurtherPart(step.exchanger, segment, is_behind)
 
 
 def prolonged(case: Case, kinks: Kinks, structure: Structure, pairs: Collection[Pair], random: Random,
@@ -53,7 +53,8 @@ def prolonged(case: Case, kinks: Kinks, structure: Structure, pairs: Collection[
     return structure, wholes
 
 
-def with_part(case: Case, kinks: Kinks, structure: Structure, part: Part, pairs: Collection[Pair]) -> Structure | None:
+def with_part(case: Case, kinks: Kinks, structure: Structure, part: FurtherPart,
+              pairs: Collection[Pair]) -> Structure | None:
     """A structure with a part more; None where the pair may not be, or where the other side has a level parting."""
     pair = structure.pairs[part.exchanger]
     other = pair[not kinks.is_cold(part.segment)]
