@@ -374,6 +374,16 @@ def test_what_is_added_renamed_and_removed_by_forms(page: LivePage, desk: OpenDe
 
 
 @pytest.mark.long
+def test_each_number_of_an_exchanger_has_its_unit(opens: Opens, tmp_path: Path) -> None:
+    """Areas too, where the case gives coefficients."""
+    page, _ = opens(copied(tmp_path, 'reactors-cost'))
+    page.choose('E1')
+    page.until(lambda: 'm²' in page.text('#chosen dd'))
+    page.one('#table summary').click()
+    assert page.text('#table caption') == 'duties in kW, temperatures in °C, differences in K, areas in m²'
+
+
+@pytest.mark.long
 def test_where_no_utility_reaches_the_page_offers_to_add_one(opens: Opens, tmp_path: Path) -> None:
     (tmp_path / 'case.csv').write_text(WARM_COOLER, encoding='utf-8')
     page, desk = opens(tmp_path / 'case.csv')

@@ -283,7 +283,7 @@ function facts(name, view) {
     ['cold side', `${row.cold_in} → ${row.cold_out} ${temperature}`],
     ['least difference', row.difference && `${row.difference} ${difference}, needed ${row.wanted}`],
     ['pinch', pinchText(row.where, crossing, heat)],
-    ['of the excess', row.loss && `${row.loss} ${heat}`], ['area', row.area],
+    ['of the excess', row.loss && `${row.loss} ${heat}`], ['area', row.area && `${row.area} m²`],
   ];
   return make('dl', {}, ...lines.filter(([, text]) => text)
     .flatMap(([word, text]) => [make('dt', {}, word), make('dd', {}, text)]));

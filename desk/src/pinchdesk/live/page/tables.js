@@ -27,7 +27,8 @@ export function tablePart(place, actions) {
     const columns = COLUMNS.filter(([name]) => exchangers.some(row => row[name]) || name === 'name');
     fill(place, make('summary', { 'data-key': 'table' }, 'All exchangers as a table'),
       make('div', { class: 'wide' }, make('table', {},
-        make('caption', {}, `duties in ${units.heat}, temperatures in ${units.temperature}`),
+        make('caption', {}, `duties in ${units.heat}, temperatures in ${units.temperature}, differences in `
+          + units.difference + (exchangers.some(row => row.area) ? ', areas in m²' : '')),
         make('thead', {}, make('tr', {}, ...columns.map(([, word, number]) =>
           make('th', { scope: 'col', class: number && 'number' }, word)))),
         make('tbody', {}, ...exchangers.map(row => tableRow(row, columns, actions))))));
