@@ -140,3 +140,32 @@ def test_the_sign_of_a_duty_says_the_side_of_a_latent_stream() -> None:
     assert 'the duty -150 kW is below 0, and the stream warms up' in refusal(kinds.replace('B3', 'cold,B3'))
     assert 'what a stream gives' in refusal(SIGNED.format('B3', 95, 60, 150))
     assert OPEN in refusal(SIGNED.format('B3', 95, 95, 150).replace('-330', '330'))
+
+
+BOTH_ENDS = 'Stream;T in (°C);T out (°C);Flow (kg/s);{};{}\nH1;170;60;2;1330;1000\nC1;20;135;2;100;330\n'
+
+
+@pytest.mark.parametrize('first, second', [
+    ('Enthalpy in (kW)', 'Enthalpy out (kW)'), ('Enthalpy in [kW]', 'Enthalpy out [kW]'),
+    ('h in (kJ/kg)', 'h out (kJ/kg)'),
+    ('Enthalpy, in (kJ/kg)', 'Enthalpy, out (kJ/kg)'), ('Enthalpie ein (kW)', 'Enthalpie aus (kW)'),
+    ('Cp in (kJ/kg K)', 'Cp out (kJ/kg K)'), ('CP in (kW/K)', 'CP out (kW/K)')])
+def test_heats_at_both_ends_are_none_of_the_stream(first: str, second: str) -> None:
+    assert 'are those at both ends of a stream' in refusal(BOTH_ENDS.format(first, second))
+
+
+@pytest.mark.parametrize('title', ['Enthalpy (kJ/kg)', 'h (kJ/kg)', 'Specific enthalpy (kJ/kg)', 'Enthalpy in (kJ/kg)'])
+def test_an_enthalpy_at_one_place_is_no_change_of_it(title: str) -> None:
+    assert refusal(BOTH_ENDS.format(title, 'Remark'))
+
+
+@pytest.mark.parametrize('title', ['Duty in kW', 'Duty in (kW)', 'Leistung in [kW]'])
+def test_a_unit_behind_in_is_one(title: str) -> None:
+    assert streams(BOTH_ENDS.format(title, 'Remark'))[0][4] == 1209
+
+
+@pytest.mark.parametrize('given, taken', [('Cooling required', 'Heating required'), ('Q ab', 'Q zu'),
+                                          ('Kühlleistung', 'Heizleistung'), ('Heat removed', 'Heat added')])
+def test_duties_of_hot_and_cold_streams_have_their_columns(given: str, taken: str) -> None:
+    assert streams(f'Stream;Tin;Tout;{given} (kW);{taken} (kW)\nA;170;60;330;\nB;20;135;;230\n') == [
+        ('hot', 'A', 1700, 600, 300, 0), ('cold', 'B', 200, 1350, 200, 0)]

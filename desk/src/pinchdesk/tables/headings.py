@@ -9,7 +9,7 @@ from ..errors import Refused
 from .numbers import NoNumber, numeral_of
 from .spreadsheet import Cell, Table, TableRow
 from .units import Kind, is_unit, measures
-from .vocabulary import SYMBOLS, Heading, meaning
+from .vocabulary import SYMBOLS, Heading, meaning, words
 from .vocabulary import squeezed as squeezed
 
 KINDS = {Heading.SUPPLY: Kind.TEMPERATURE, Heading.TARGET: Kind.TEMPERATURE, Heading.CP: Kind.FLOW,
@@ -25,6 +25,9 @@ NOTES = frozenset('note notes remark remarks comment comments description fluid 
 LONGEST = 200
 # A unit that has no letter: `CP (%)`, `Price €`.
 SIGN = re.compile(r'.*[(\[/,]\s*([^\w\s()\[\]/,.:;–—-]+)\s*[)\]]?\s*|.*?([%‰°€$£¥]+)\s*')
+# Headings of changes of enthalpy.
+CHANGE = re.compile(r'd\s?h\b|delta\s?h\b|(?:specific\s+)?enthalpy\s+(?:change|difference)\b|enthalpieanderung\b|'
+                    r'enthalpiedifferenz\b')
 # A sign of money belongs to the unit behind it: `Price €/MWh`.
 MONEY = re.compile('[€$£¥]')
 # What stands where the heat of a utility is still to be found.
@@ -73,7 +76,7 @@ def reading(name: str, unit: str) -> tuple[Heading | None, str]:
         return Heading.SPECIFIC, unit
     if heading is Heading.LOAD and not is_unit(unit, Kind.HEAT) and fits(Heading.MASS, unit):
         return None, ''
-    if heading is Heading.LOAD and not is_unit(unit, Kind.HEAT) and fits(Heading.LATENT, unit):
+    if heading is Heading.LOAD and is_change(name) and fits(Heading.LATENT, unit):
         return Heading.LATENT, unit
     if heading is Heading.LATENT and is_unit(unit, Kind.HEAT):
         return Heading.LOAD, unit
@@ -81,10 +84,9 @@ def reading(name: str, unit: str) -> tuple[Heading | None, str]:
 
 
 def is_change(title: str) -> bool:
-    """Whether a heading of heats per mass is that of a change of enthalpy, as `Δh (kJ/kg)`, and of no latent heat."""
-    parts = bracketed(title)
-    names = [parts[0]] if parts else [name for name, _ in splits(title)]
-    return any(meaning(name) is Heading.LOAD for name in (*names, title))
+    """Whether a heading speaks of a change of enthalpy, as `Δh (kJ/kg)`: neither of one at a place nor of a latent
+    heat."""
+    return CHANGE.match(' '.join(words(title))) is not None
 
 
 def symbol(name: str, unit: str) -> Heading | None:
@@ -126,7 +128,9 @@ def splits(text: str) -> Iterator[tuple[str, str]]:
     if len(text) > LONGEST:
         return
     for match in reversed(list(re.finditer(r'\s*[/,;:]\s*|\s+in\s+|[\s_]+', text))):
-        yield text[:match.start()], text[match.end():]
+        behind = text[match.end():]
+        inner = behind[1:-1] if behind[:1] == '[' and behind[-1:] == ']' else behind
+        yield text[:match.start()], inner
 
 
 def is_number(cell: Cell) -> bool:

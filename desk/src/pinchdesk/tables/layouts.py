@@ -11,7 +11,7 @@ from .headings import (EMPTY, KINDS, Words, bracketed, fits, has_unit, heading_o
 from .sections import COLD, HOT, Section, kind_of, section_of
 from .spreadsheet import NOTHING, Cell, Table, TableRow
 from .units import Kind, is_multiple, is_unit
-from .vocabulary import OPEN_PAIRS, PAIRS, WARM, Heading, squeezed, words
+from .vocabulary import OPEN_PAIRS, PAIRS, WARM, Heading, meaning, squeezed, words
 
 # What the title over several columns is about.
 ABOUT = {Kind.TEMPERATURE: re.compile(r'temp|supply|target|inlet|outlet|\bT\b|°', re.I),
@@ -28,14 +28,20 @@ SIZES = (Heading.CP, Heading.LOAD, Heading.MASS)
 OF_UTILITIES = (Heading.PRICE, Heading.LEAST, Heading.MOST)
 # Letters of kinds in French, Spanish and Italian (`C` and `F`), and in German (`H` and `K`).
 LETTERS = ({'c': 'hot', 'f': 'cold'}, {'h': 'hot', 'k': 'cold'})
+# What a stream has one of, and the words of its two ends.
+OF_STREAMS = (Heading.LOAD, Heading.CP, Heading.SPECIFIC, Heading.LATENT)
+BEGUN = frozenset('in inlet ein eingang entree entrada ingresso supply start initial feed'.split())
+ENDED = frozenset('out outlet aus ausgang sortie salida uscita target end final product'.split())
 # What heads the heat of a heating curve, and what no table of such curves has.
 ENTHALPY = frozenset('h enthalpy enthalpie enthalpiestrom entalpia enthalpyflow heatcontent cumulativeenthalpy heatflow'
                      .split())
 # Two columns of duties, one of what is taken from hot streams and one of what cold ones need.
 DUTIES = {side: frozenset(named.split()) for side, named in (
-    ('hot', 'coolingduty coolingload heatavailable heatreleased heatremoved heattoremove heatgiven '
+    ('hot', 'coolingduty coolingload coolingrequired coolingdemand coolingrequirement qab warmeabgabe '
+            'warmeabfuhr heatavailable heatreleased heatremoved heattoremove heatgiven '
             'kuhlleistung kuhllast kuhlbedarf chaleurcedee calorcedido caloreceduto heatrejected'),
-    ('cold', 'heatingduty heatingload heatrequired heatrequirement heatabsorbed heatadded heattoadd heatneeded '
+    ('cold', 'heatingduty heatingload heatingrequired heatingdemand heatingrequirement qzu warmeaufnahme '
+             'warmezufuhr heatrequired heatrequirement heatabsorbed heatadded heattoadd heatneeded '
              'heizleistung heizlast heizbedarf chaleurrecue calorabsorbido caloreassorbito heatdemand'))}
 NO_CURVE = (Heading.TARGET, Heading.CP, Heading.MASS, Heading.SPECIFIC, Heading.LATENT, *OF_UTILITIES)
 
@@ -158,6 +164,7 @@ class Draft:
         """The layout of this head over these rows; `Refused` where a column that is needed is missing, or stands
         twice."""
         self.pair()
+        self.check_ends()
         self.tell_specific()
         self.drop_unfit()
         columns, twins = self.chosen(rows)
@@ -308,6 +315,20 @@ class Draft:
         if hot and cold:
             raise self.table.refusal(self.row.number, hot[0], 'a row has a hot and a cold stream, as those of an '
                                      'exchanger: give each stream a row of its own, with its own duty')
+
+    def check_ends(self) -> None:
+        """`Refused` where two columns have heats or CPs at both ends of a stream, as `Enthalpy in` and `Enthalpy out`:
+        neither is that of the stream."""
+        names = {column: words((bracketed(title) or (title, ''))[0]) for column, title in self.titles.items()}
+        for column, parts in names.items():
+            begun = len(parts) > 1 and parts[-1] in BEGUN and meaning(' '.join(parts[:-1])) in OF_STREAMS
+            if begun or len(parts) > 1 and parts[-1] in BEGUN and parts[:-1] == ['h']:
+                others = [title for at, title in self.titles.items()
+                          if names[at][:-1] == parts[:-1] and names[at][-1] in ENDED]
+                if others:
+                    cause = f'`{self.titles[column]}` and `{others[0]}` are those at both ends of a stream: give the ' \
+                            'difference as its duty, or its CP'
+                    raise self.table.refusal(self.row.number, column, cause)
 
     def check(self, columns: Mapping[Heading, int]) -> None:
         """`Refused` where a column is missing, with the headings that are not known."""
