@@ -71,19 +71,18 @@ def clauses(checked: CheckedRange, shown: Shown) -> list[str]:
 
 def less_told(checked: CheckedRange, shown: Shown) -> str:
     """What one unit of CP less would do."""
-    if checked.cp > 1:
-        less = f'with {shown.flow(checked.cp - 1)} {shown.flow_unit}'
-    else:
-        less = 'without it'
+    is_one = checked.cp == 1
+    less = 'without it' if is_one else f'with {shown.flow(checked.cp - 1)} {shown.flow_unit}'
+    there = 'there' if is_one else 'it'
     if not checked.flows:
         return 'the case has no heat flow'
     if checked.dearer is not None and checked.dearer < 0:
         return f'{less}, and all others as they are, the cost is {shown.with_unit(-checked.dearer)} lower: the sizes ' \
                'are those of all together in whole units of CP, or it has its least'
     if not checked.is_least:
-        return f'{less} it is enough too'
+        return f'{less} {there} is enough too'
     if checked.less_lacking:
-        return f'{less} it is not enough: {shown.heat(checked.less_lacking.heat)} {shown.heat_unit} are missing'
+        return f'{less} {there} is not enough: {shown.heat(checked.less_lacking.heat)} {shown.heat_unit} are missing'
     return f'{less} the cost is {shown.with_unit(checked.dearer or 0)} higher'
 
 
