@@ -5,10 +5,11 @@ import re
 from dataclasses import replace
 from fractions import Fraction
 from pathlib import Path
+from typing import Any
 
 import pytest
 
-from pinchdesk import Pinch, completed, follow, read_case
+from pinchdesk import Pinch, Stream, completed, follow, read_case
 from pinchdesk.analysis.open_branches import Left, Rounding, Scale, left_of, open_branches, rest_case
 from pinchdesk.errors import Refused
 from pinchdesk.formats.case import Case, print_case
@@ -42,6 +43,10 @@ STEAM = f'{HEAD}hot;H;300;60;10;;\nheater;HP;310;;;;35\ncooler;steam;100;200;4,2
 def case_of(table: str, difference: str = '10', units: str = 'SI', ranges: str = 'stream') -> Case:
     asked = CaseOptions(difference, units=units, ranges=ranges).wanted
     return converted(Pinch(), TextFile('t.csv', table.encode()), asked).case
+
+
+def stream_of(case: Case, name: str) -> Stream:
+    return next(stream for stream in case.streams if stream.name == name)
 
 
 @pytest.fixture(name='plant')
@@ -80,7 +85,7 @@ def test_a_utility_in_segments_is_one_stream(pinch: Pinch) -> None:
     case = case_of(STEAM)
     whole, = (stream for stream in whole_streams(case) if stream.name == 'steam')
     assert (whole.supply, whole.target, len(case.basis.segments[0].segments)) == (1000, 2500, 3)
-    first, boiling, last = (stream for stream in case.streams if stream.name.startswith('steam-'))
+    first, boiling, last = (stream_of(case, f'steam-{at}') for at in (1, 2, 3))
     assert abs(boiling.load * 420 - first.cp * 1_940_000) <= 420 and abs(last.cp * 420 - first.cp * 250) <= 420
     assert read_case(print_case(case)) == case and pinch.targets(case).cold == 0
 
@@ -127,9 +132,8 @@ def test_a_range_in_the_units_of_its_table_is_whole_there(pinch: Pinch) -> None:
     table = 'Kind;Name;Supply;Target;CP\n;;°F;°F;Btu/(h °F)\nhot;H;350;160;1000\ncold;C;100;250;500\n' \
             'cooler;CW;70;90;\n'
     case = case_of(table, '18 °F', units='table')
-    water, = (stream for stream in case.streams if stream.name == 'CW')
-    assert (water.supply, water.target) == (700, 900)
-    assert case.basis.units is not None and case.basis.units.temperature == '°F'
+    water = stream_of(case, 'CW')
+    assert case.basis.units and (water.supply, water.target, case.basis.units.temperature) == (700, 900, '°F')
     assert pinch.targets(case).cold == 0 and read_case(print_case(case)) == case
 
 

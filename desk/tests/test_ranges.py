@@ -232,11 +232,7 @@ utilities_in_rows: some.SearchStrategy[RangedUtility] = some.builds(
         lambda offer, more: Lacking(offer + more, offer), some.integers(0, 10 ** 12), some.integers(1, 10 ** 9)))
 
 
-def name_of(utility: RangedUtility) -> str:
-    return utility.name
-
-
-@given(some.lists(utilities_in_rows, max_size=4, unique_by=name_of))
+@given(some.lists(utilities_in_rows, max_size=4, unique_by=lambda utility: str(utility.name)))
 def test_what_is_printed_of_them_is_read_again(utilities: list[RangedUtility]) -> None:
     basis, read = Basis(ranges=tuple(utilities)), Basis()
     for row in basis_rows(basis):
