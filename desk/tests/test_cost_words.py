@@ -1,6 +1,7 @@
 """The words `cost` and `supertarget` and their pictures: tables, notes, statuses."""
 from __future__ import annotations
 
+import re
 from decimal import Decimal
 from fractions import Fraction
 
@@ -140,6 +141,15 @@ def test_a_supertarget_takes_a_film_too() -> None:
     answer = supertarget(files_of(case=case), SupertargetOptions('4', '10', '2', film='0.5 kW/m2K'))
     assert answer.notes[0].startswith('case.txt: the film coefficient 0.5 kW/m2K is taken for H')
     assert answer.sheets[0] == supertarget(files_of(case=SMALL.encode()), SupertargetOptions('4', '10', '2')).sheets[0]
+
+
+def test_a_small_area_is_not_0() -> None:
+    """Films of 10,000 kW/m²K: 0.0025 m² in all."""
+    case = re.sub('#film,(.),[^,]*', '#film,\\1,10000', SMALL).encode()
+    answer = cost(files_of(case=case, network=NETWORK.encode()))
+    exchangers = answer.sheets[0]
+    assert [row[exchangers.headings.index('area m²')] for row in exchangers.rows] == [
+        Decimal('0.0015'), Decimal('0.00012'), Decimal('0.00027')]
 
 
 def test_a_number_of_which_no_digit_is_certain_is_a_question_mark() -> None:

@@ -12,7 +12,7 @@ from ..costs.area_floor import AreaFloor
 from ..costs.area_target import AreaTarget
 from ..costs.cost_data import CostData
 from ..costs.cost_target import CostTarget
-from ..costs.enclosure import Enclosure
+from ..costs.enclosure import Enclosure, leading_zeros
 from ..costs.network_costs import NetworkCosts
 from ..costs.supertarget import LeastCost, Supertarget, SupertargetPoint
 from ..formats.shown import Shown, decimal
@@ -27,8 +27,10 @@ BOUND = 'all coefficients are equal: no network with the same utilities has less
 
 def certain(number: Enclosure, places: int) -> Cell:
     """A number with at most so many decimals, of the digits on which both of its ends agree; `?` where they agree on
-    none."""
+    none. One above 0 that would be shown as 0 has the two digits that it begins with."""
     text = number.shown(places)
+    if text == '0' and number.low > 0:
+        text = number.shown(leading_zeros(number.low) + 2)
     return text if text == '?' else Decimal(text)
 
 
