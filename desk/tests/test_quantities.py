@@ -40,7 +40,8 @@ UNKNOWN = [
     (Kind.HEAT, 'mW'), (Kind.FLOW, 'mW/K'), (Kind.HEAT, 'MWh/month'), (Kind.HEAT, 'mJ/h'), (Kind.HEAT, '10e3 kW'),
     (Kind.HEAT, '1,000 kW'),
     (Kind.HEAT, 'kWh'), (Kind.HEAT, 'TJ/yr'), (Kind.HEAT, 'GJ/a'), (Kind.HEAT, 'MBtu/h'), (Kind.HEAT, 'EUR'),
-    (Kind.HEAT, 'M*BTU/HR'), (Kind.HEAT, 'MkJ/h'), (Kind.HEAT, 'MWe'), (Kind.HEAT, 'million'),
+    (Kind.HEAT, 'M*BTU/HR'), (Kind.HEAT, 'MkJ/h'),
+    (Kind.HEAT, 'K*W'), (Kind.FLOW, 'K*W/K'), (Kind.HEAT, 'MWe'), (Kind.HEAT, 'million'),
     (Kind.HEAT, 'kW' * 30), (Kind.HEAT, '__import__("os")'), (Kind.HEAT, 'kW/K'), (Kind.DIFFERENCE, '%'),
 ]
 

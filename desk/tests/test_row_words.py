@@ -23,6 +23,8 @@ def test_a_name_says_nothing_where_others_contradict_it_or_none_agrees() -> None
     assert OPEN in refusal(NAMED.format('H2').replace('C1;20;135', 'C1;135;20'))
     assert OPEN in refusal(NAMED.format('C3').replace('H1;', 'Effluent;'))
     assert OPEN in refusal(NAMED.format('H')) and OPEN in refusal(NAMED.format('Heptane'))
+    # Hydrogen, butane and propane.
+    assert OPEN in refusal(NAMED.format('C3').replace('H1;', 'H2;').replace('C1;', 'C4;'))
 
 
 def test_signs_of_duties_are_taken_either_way_where_names_or_kinds_agree() -> None:
@@ -169,3 +171,16 @@ def test_a_unit_behind_in_is_one(title: str) -> None:
 def test_duties_of_hot_and_cold_streams_have_their_columns(given: str, taken: str) -> None:
     assert streams(f'Stream;Tin;Tout;{given} (kW);{taken} (kW)\nA;170;60;330;\nB;20;135;;230\n') == [
         ('hot', 'A', 1700, 600, 300, 0), ('cold', 'B', 200, 1350, 200, 0)]
+
+
+def test_a_title_over_two_columns_of_a_text_has_the_unit_of_both() -> None:
+    rows = 'H1;338;140;5;4;330\nC1;68;275;8;7;230\n'
+    table = 'Stream;Temperature (°F);;Pressure (bar);;Duty (kW)\n;in;out;in;out;\n' + rows
+    assert streams(table, Wanted('18 °F')) == [('hot', 'H1', 1700, 600, 300, 0), ('cold', 'C1', 200, 1350, 200, 0)]
+    assert 'passed over, the column `out`' in made(table, Wanted('18 °F')).notes
+    assert refusal(table.replace('(bar)', '(°F)'), Wanted('18 °F'))
+
+
+def test_a_rate_of_money_is_no_mass_flow() -> None:
+    assert 'passed over, the column `Rate (€/MWh)`' in made(
+        'Stream;Kind;Tin;Tout;CP (kW/K);Rate (€/MWh)\nH;hot;170;60;3;\nS;heater;200;;;30\n').notes

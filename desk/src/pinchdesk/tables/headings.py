@@ -25,6 +25,8 @@ NOTES = frozenset('note notes remark remarks comment comments description fluid 
 LONGEST = 200
 # A unit that has no letter: `CP (%)`, `Price €`.
 SIGN = re.compile(r'.*[(\[/,]\s*([^\w\s()\[\]/,.:;–—-]+)\s*[)\]]?\s*|.*?([%‰°€$£¥]+)\s*')
+# What may be the rate of something else too.
+RATES = frozenset(('rate', 'totalrate'))
 # Headings of changes of enthalpy.
 CHANGE = re.compile(r'd\s?h\b|delta\s?h\b|(?:specific\s+)?enthalpy\s+(?:change|difference)\b|enthalpieanderung\b|'
                     r'enthalpiedifferenz\b')
@@ -76,6 +78,8 @@ def reading(name: str, unit: str) -> tuple[Heading | None, str]:
         return Heading.SPECIFIC, unit
     if heading is Heading.LOAD and not is_unit(unit, Kind.HEAT) and fits(Heading.MASS, unit):
         return None, ''
+    if heading is Heading.MASS and squeezed(name) in RATES and unit and not fits(Heading.MASS, unit):
+        return None, unit
     if heading is Heading.LOAD and is_change(name) and fits(Heading.LATENT, unit):
         return Heading.LATENT, unit
     if heading is Heading.LATENT and is_unit(unit, Kind.HEAT):

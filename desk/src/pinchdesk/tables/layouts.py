@@ -11,7 +11,7 @@ from .headings import (EMPTY, KINDS, Words, bracketed, fits, has_unit, heading_o
 from .sections import COLD, HOT, Section, kind_of, section_of
 from .spreadsheet import NOTHING, Cell, Table, TableRow
 from .units import Kind, is_multiple, is_unit
-from .vocabulary import OPEN_PAIRS, PAIRS, WARM, Heading, meaning, squeezed, words
+from .vocabulary import OPEN_PAIRS, PAIRS, WARM, WARMED, Heading, meaning, squeezed, words
 
 # What the title over several columns is about.
 ABOUT = {Kind.TEMPERATURE: re.compile(r'temp|supply|target|inlet|outlet|\bT\b|°', re.I),
@@ -28,6 +28,7 @@ SIZES = (Heading.CP, Heading.LOAD, Heading.MASS)
 OF_UTILITIES = (Heading.PRICE, Heading.LEAST, Heading.MOST)
 # Letters of kinds in French, Spanish and Italian (`C` and `F`), and in German (`H` and `K`).
 LETTERS = ({'c': 'hot', 'f': 'cold'}, {'h': 'hot', 'k': 'cold'})
+OF_TEMPERATURE = re.compile(r'temp|t(?![a-z])|t_?(?:s|t|in|out|supply|target|start|end)(?![a-z])', re.I)
 # What a stream has one of, and the words of its two ends.
 OF_STREAMS = (Heading.LOAD, Heading.CP, Heading.SPECIFIC, Heading.LATENT)
 BEGUN = frozenset('in inlet ein eingang entree entrada ingresso supply start initial feed'.split())
@@ -131,8 +132,10 @@ class Draft:
             if heading and has_unit(heading) and self.headings.get(column) in TEXTS:
                 # No temperature or heat stands below a heading of names.
                 heading, unit = None, ''
+            if heading in WARMED and not unit:
+                self.reach(column)
             if heading:
-                self.drop_words(column, heading, self.heads[-2])
+                self.drop_words(column, heading, cell.text)
                 self.headings[column], self.titles[column] = heading, cell.text
             elif has_unit(self.headings.get(column, Heading.NAME)) and cell.text not in EMPTY:
                 unit = stripped(cell.text)
@@ -147,11 +150,20 @@ class Draft:
                 cause = f'two units, `{self.units[column]}` above and `{unit}` here'
                 raise self.table.refusal(row.number, column, cause)
 
-    def drop_words(self, column: int, heading: Heading, above: int) -> None:
+    def reach(self, column: int) -> None:
+        """Gives an end below a title over several columns, as `Temperature (°F)` or `Pressure (bar)`, its unit, where
+        the title stands in the first of them alone."""
+        before = [at for at, cell in self.row.filled() if at <= column]
+        if len(self.heads) == 2 and before and before[-1] == column - 1 and self.units.get(before[-1]):
+            self.units.setdefault(column, self.units[before[-1]])
+
+    def drop_words(self, column: int, heading: Heading, title: str) -> None:
         """Takes what stands above another heading, as `CP in kW/K` above `Supply`, for words beside the headings."""
         unit, before = self.units.get(column, ''), self.headings.get(column)
-        if before and before is not heading and unit and not fits(heading, unit):
-            self.beside.append(Words(above, column, self.titles[column]))
+        # `Pressure (bar)` stands above its own `in` and `out`.
+        whole = heading not in WARMED or OF_TEMPERATURE.match(title) is not None
+        if before and before is not heading and unit and whole and not fits(heading, unit):
+            self.beside.append(Words(self.heads[-2], column, self.titles[column]))
             del self.units[column]
 
     def is_strange(self, column: int, unit: str) -> bool:

@@ -1,6 +1,7 @@
 """Puts the lines of a table together to a case."""
 from __future__ import annotations
 
+import re
 from collections.abc import Sequence
 from dataclasses import replace
 from fractions import Fraction
@@ -326,8 +327,12 @@ def spread_of(lines: Sequence[Line], reader: CellReader) -> tuple[tuple[Fraction
         (line for line in lines if line.is_stream), ends) if supply is not None and target is not None
         and supply != target]
     named = [(side, fall) for side, fall in said if side]
-    agreed = all((side == 'hot') == (fall > 0) for side, fall in named)
-    return spread, agreed and {side for side, _ in named} == {'hot', 'cold'}
+    both = {side for side, _ in named} == {'hot', 'cold'}
+    agreed = both and all((side == 'hot') == (fall > 0) for side, fall in named)
+    # `H2` and `C3` alone may be hydrogen and propane.
+    counted = any(side_of_name(line) == 'hot' and re.sub('[^0-9]', '', line.name()) != '2' for line in lines
+                  if line.is_stream)
+    return spread, agreed and counted
 
 
 def are_changes(lines: Sequence[Line], reader: CellReader) -> bool:

@@ -65,7 +65,7 @@ SQUARE = re.compile(r'\b(m|cm|ft)\^?([23])(?![0-9])')
 PRODUCT = re.compile(r'(?<=[A-Za-z0-9)])\s*[-.]\s*(?=[A-Za-z°(])')
 MILLIONS = re.compile(r'MM\s*\*?\s*(?=(?:btuh?|k?cal|kj|kw|w)\b)', re.I)
 # PRO/II writes `K*KG/HR` and, of metric heats, `M*KJ/HR`, where a thousand is its `K*`.
-STARRED = re.compile(r'(?:(?P<thousand>K)|M(?=\s*\*\s*K(?:J|CAL)\b))\s*\*\s*(?=[A-Z])')
+STARRED = re.compile(r'(?:(?P<thousand>K)(?=\s*\*\s*(?:KG|LB|KJ|KCAL|BTU)\b)|M(?=\s*\*\s*K(?:J|CAL)\b))\s*\*\s*')
 # `million Btu per hour`, `thousands of kcal/h`.
 COUNTED = re.compile(r'(?:(?P<thousand>thousands?)|millions?)\s+(?:of\s+)?(?=[A-Za-z])', re.I)
 # Heat is called so beside electric power: `kW_th`, `MWth`, `kW (th)`.
