@@ -55,6 +55,24 @@ def test_the_cost_stands_beside_the_pointer_before_the_drop(page: LivePage) -> N
 
 
 @pytest.mark.long
+def test_the_line_beside_a_piece_is_as_good_as_the_piece(page: LivePage) -> None:
+    """A drag may begin and end beside pills, up to the pinch, whose line stays where it was."""
+    lines = page.attributes('.pinch line', 'x1')
+    source, target, same = page.piece('S1', '120'), page.piece('S3', '137.5'), page.piece('S2', '240')
+    chain = ActionChains(page.driver, duration=20)
+    chain.move_to_element_with_offset(source, -40, 0).click_and_hold().move_by_offset(9, 9)
+    chain.move_to_element_with_offset(same, 40, 0).perform()
+    page.until(lambda: 'both are hot' in page.text('#hint'))
+    chain = ActionChains(page.driver, duration=20)
+    chain.move_to_element_with_offset(target, -40, 0).release().perform()
+    page.until(lambda: len(page.exchangers()) == 1)
+    assert page.attributes('.pinch line', 'x1') == lines
+    ActionChains(page.driver).move_to_element_with_offset(page.piece('S2', '240'), 40, 0).click().perform()
+    page.until(lambda: page.all('[data-key="offer 0"]') and 'S2: 240 kW open' in page.text('#chosen'))
+    assert not page.errors()
+
+
+@pytest.mark.long
 def test_tc3_is_made_broken_and_mended(page: LivePage, desk: OpenDesk) -> None:
     """It makes the pictures of the documents too: LIVE_PICTURES=docs/pictures."""
     page.drag(page.piece('S1', '120'), page.piece('S3', '137.5'), drop=False)
@@ -165,6 +183,10 @@ def test_tc3_by_keys_alone(page: LivePage, desk: OpenDesk) -> None:
     page.says('Rejected')
     page.undo()
     page.says('Accepted', '107.5 kW')
+    # What is taken away leaves a piece, which has the focus: Delete once more takes nothing.
+    page.driver.execute_script('arguments[0].focus()', page.exchanger('E4'))
+    page.press(Keys.DELETE)
+    page.until(lambda: len(page.exchangers()) == 6 and page.focused().startswith('piece'))
 
 
 @pytest.mark.long

@@ -2,6 +2,7 @@
 // whole of it to another piece. What a drop would cost stands beside the pointer before it is done.
 
 import { draw, make, part } from './dom.js';
+import { meantAt } from './grid_hits.js';
 import { partnersOf } from './grid_marks.js';
 
 /** @typedef {import('./contract.js').Offer} Offer */
@@ -24,6 +25,7 @@ const EDGE = 36, STEP = 9;
  * @property {boolean} moving
  * @property {SVGLineElement | null} line
  * @property {Element | null} target
+ * @property {string} vain why nothing comes of a drop here
  */
 
 export class Drag {
@@ -51,20 +53,23 @@ export class Drag {
 
   /** @param {PointerEvent} event */
   down(event) {
-    const target = event.target instanceof Element ? event.target : null;
-    const piece = target?.closest('[data-piece]'), ending = target?.closest('[data-end]');
-    const exchanger = target?.closest('[data-exchanger]'), { picture } = this.part;
+    const target = event.target instanceof Element ? event.target : null, at = { x: event.clientX, y: event.clientY };
+    const { picture } = this.part, found = picture && meantAt(target, inside(picture, at).x, this.part.at);
+    const piece = found?.closest('[data-piece]'), ending = target?.closest('[data-end]');
+    const exchanger = target?.closest('[data-exchanger]');
     if (event.button !== 0 || !picture || !piece && !exchanger) return;
-    const shape = (piece ?? ending)?.querySelector('rect'), at = { x: event.clientX, y: event.clientY };
-    // A finger on a bar moves the page: bars are everywhere.
-    if (!shape && event.pointerType === 'touch') return;
+    const shape = (piece ?? ending)?.querySelector('rect');
+    // A finger on a bar or a line moves the page: they are everywhere.
+    if (event.pointerType === 'touch' && !target?.closest('[data-piece], [data-end]')) return;
     this.pull = {
       kind: piece ? 'piece' : ending ? 'end' : 'whole',
       name: piece?.getAttribute('data-piece') ?? exchanger?.getAttribute('data-exchanger') ?? '',
       side: piece ? (piece.classList.contains('hot') ? 'hot' : 'cold') : ending?.getAttribute('data-end') ?? '',
       from: shape ? middleOf(shape) : inside(picture, at), down: at, now: at,
-      pointer: event.pointerId, moving: false, line: null, target: null,
+      pointer: event.pointerId, moving: false, line: null, target: null, vain: '',
     };
+    // What was refused before is no matter of this.
+    if (this.part.actions.state.refusal) this.part.actions.store.set({ refusal: null });
     if (piece) this.part.actions.offer(this.pull.name);
     window.addEventListener('pointermove', this.moved);
     window.addEventListener('pointerup', this.dropped);
@@ -115,7 +120,8 @@ export class Drag {
   aim(at) {
     const { pull } = this, { picture } = this.part;
     if (!pull || !pull.line || !picture) return;
-    const target = this.targetAt(at.x, at.y);
+    const { target, vain } = this.targetAt(at.x, at.y);
+    pull.vain = vain;
     if (pull.target !== target) {
       pull.target?.classList.remove('aimed');
       target?.classList.add('aimed');
@@ -131,17 +137,20 @@ export class Drag {
 
   /**
    * Where a drop would go: a piece or a utility of the other side; for an end of an exchanger a piece of its side, for
-   * the whole of it any piece.
+   * the whole of it any piece. Else why it goes nowhere.
    * @param {number} x
    * @param {number} y
    */
   targetAt(x, y) {
-    const { pull } = this;
-    const found = document.elementFromPoint(x, y)?.closest('[data-piece], [data-utility]');
-    if (!pull || !found || !this.part.panel.contains(found)) return null;
-    const side = found.classList.contains('hot') ? 'hot' : 'cold';
-    if (pull.kind === 'piece') return side === pull.side ? null : found;
-    return found.matches('[data-piece]') && (pull.kind === 'whole' || side === pull.side) ? found : null;
+    const { pull } = this, { picture, at, panel } = this.part;
+    const found = picture && meantAt(document.elementFromPoint(x, y), inside(picture, { x, y }).x, at);
+    if (!pull || !found || !panel.contains(found) || nameOf(found) === pull.name) return { target: null, vain: '' };
+    const side = found.classList.contains('hot') ? 'hot' : 'cold', isPiece = found.matches('[data-piece]');
+    const vain = found.matches('[data-lane]') ? 'nothing is open here'
+      : pull.kind === 'piece' && side === pull.side ? `both are ${side}: heat goes from hot to cold`
+        : pull.kind === 'end' && side !== pull.side ? `this end is ${pull.side}, and stays so` : '';
+    const fits = !vain && (isPiece || pull.kind === 'piece' && found.matches('[data-utility]'));
+    return { target: fits ? found : null, vain: found.matches('[data-exchanger]') ? '' : vain };
   }
 
   /** Beside the pointer, in words, what would come of a drop; again when costs have come. */
@@ -151,14 +160,32 @@ export class Drag {
     if (!lines.length) return;
     this.hint.replaceChildren(...lines.map(line => make('div', {}, line)));
     const { offsetWidth: wide, offsetHeight: high } = this.hint;
-    this.hint.style.left = `${Math.max(4, Math.min(x + 14, innerWidth - wide - 4))}px`;
-    this.hint.style.top = `${y - high - 14 > 4 ? y - high - 14 : y + 18}px`;
+    const { left, top } = this.free(x, y, wide, high);
+    this.hint.style.left = `${left}px`;
+    this.hint.style.top = `${top}px`;
+  }
+
+  /**
+   * Where a label beside the pointer covers no piece to which a drop could go; above it, if it does everywhere.
+   * @param {number} x
+   * @param {number} y
+   * @param {number} wide
+   * @param {number} high
+   */
+  free(x, y, wide, high) {
+    const partners = [...this.part.panel.querySelectorAll('.partner rect')].map(shape => shape.getBoundingClientRect());
+    /** @type {(top: number) => number} */
+    const within = top => Math.max(4, Math.min(top, innerHeight - high - 4));
+    const places = [[x + 14, y - high - 14], [x - wide - 14, y - high - 14], [x + 14, y + 18], [x - wide - 14, y + 18]]
+      .map(([left, top]) => ({ left: Math.max(4, Math.min(left, innerWidth - wide - 4)), top: within(top) }));
+    return places.find(({ left, top }) => partners.every(box =>
+      box.right < left || box.left > left + wide || box.bottom < top || box.top > top + high)) ?? places[0];
   }
 
   /** @returns {string[]} */
   words() {
     const { pull } = this;
-    if (!pull || !pull.target) return [];
+    if (!pull || !pull.target) return pull?.vain ? [pull.vain] : [];
     const partner = nameOf(pull.target);
     const { offers, moves } = this.part.actions.state;
     if (pull.kind !== 'piece') {

@@ -1,4 +1,5 @@
-// Where the things of the grid diagram stand, in CSS pixels: columns as near as texts allow, so that much fits.
+// Where the things of the grid diagram stand, in CSS pixels: the columns fill the panel, and where they are too many
+// for it they are as near as texts allow. Pinch lines stay where they were while that leaves room on both sides.
 
 import { letterScale, textWidth } from './dom.js';
 
@@ -9,14 +10,17 @@ import { letterScale, textWidth } from './dom.js';
 /** @typedef {{x: number, wide: number}} Beside what stands in a lane: in which column, how wide */
 
 /** The usual distances, for letters of 16 pixels. */
-const LANE = 54, LEAST = 25, MOST = 92, TOP = 50, GAP = 10;
+const LANE = 54, LEAST = 25, TOP = 50, GAP = 10;
+/** On no side of a pinch are columns nearer than this part of what they would be with the same room for each. */
+const NARROWEST = 0.55;
 
 export class Geometry {
   /**
    * @param {GridPicture} grid
    * @param {number} room the width of the panel
+   * @param {number[]} lines where the pinch lines stood before, from the left end
    */
-  constructor(grid, room) {
+  constructor(grid, room, lines = []) {
     const scale = letterScale();
     this.scale = scale;
     this.size = 12.5 * scale;
@@ -33,13 +37,15 @@ export class Geometry {
     this.pills = pillsOf(grid, text => this.pill(text));
     const least = Math.max(LEAST * scale, ...[this.pills, labelsOf(grid, this.size), dutiesOf(grid, this.size)]
       .flatMap(lanes => [...lanes.values()].map(lane => leastPitch(lane, 4 * scale))));
-    const fitting = (room - this.names - this.left - this.right) / (grid.columns + 0.5);
-    this.pitch = Math.max(least, Math.min(fitting, MOST * scale));
+    const columns = grid.columns + 0.5, fitting = (room - this.names - this.left - this.right) / columns;
+    const pitch = Math.max(least, fitting);
+    /** Columns and where they are, from the left end of the rows to their right end; between them it is even. */
+    this.marks = marksOf(grid, pitch, Math.max(least, NARROWEST * pitch), lines);
     this.levels = levelsOf(grid.pinches.map(pinch => ({
-      x: pinch.x * this.pitch, wide: textWidth(pinch.text, this.size) + GAP * scale,
+      x: this.x(pinch.x), wide: textWidth(pinch.text, this.size) + GAP * scale,
     })));
     this.top = (TOP + 16 * Math.max(0, ...this.levels)) * scale;
-    this.width = this.left + this.right + this.pitch * (grid.columns + 0.5);
+    this.width = this.left + this.right + pitch * columns;
     this.height = this.top + LANE * scale * Math.max(grid.lanes - 1, 0) + 44 * scale;
   }
 
@@ -53,7 +59,16 @@ export class Geometry {
 
   /** @param {number} column */
   x(column) {
-    return this.left + (column + 0.75) * this.pitch;
+    const { marks } = this;
+    const at = Math.max(1, Math.min(marks.length - 1, marks.findIndex(mark => mark.column >= column)));
+    const [one, other] = marks.slice(at - 1, at + 1);
+    const part = (column - one.column) / (other.column - one.column);
+    return this.left + one.x + part * (other.x - one.x);
+  }
+
+  /** Where the pinch lines stand, from the left end of the rows. */
+  get lines() {
+    return this.marks.slice(1, -1).map(mark => mark.x);
   }
 
   /** @param {number} lane */
@@ -71,11 +86,30 @@ export class Geometry {
    * @param {BranchLine} line
    */
   over(line) {
-    const half = textWidth(line.label, this.size) / 2 + 2 * this.scale;
-    const beside = (this.pills.get(line.y) ?? []).every(pill =>
-      Math.abs(pill.x - line.label_x) * this.pitch >= half + pill.wide / 2);
+    const half = textWidth(line.label, this.size) / 2 + 2 * this.scale, x = this.x(line.label_x);
+    const pills = this.pills.get(line.y) ?? [];
+    const beside = pills.every(pill => Math.abs(this.x(pill.x) - x) >= half + pill.wide / 2);
     return beside ? 7 * this.scale : this.radius + 4 * this.scale;
   }
+}
+
+/**
+ * The ends of the rows and the pinches between them, in columns and in pixels from the left end.
+ * @param {GridPicture} grid
+ * @param {number} pitch how far columns are from one another in all
+ * @param {number} narrow how near they may come on one side of a pinch
+ * @param {number[]} lines
+ */
+function marksOf(grid, pitch, narrow, lines) {
+  const first = -0.75, last = grid.columns - 0.25, right = (last - first) * pitch;
+  const pinches = [...new Set(grid.pinches.map(pinch => pinch.x))].sort((one, other) => one - other);
+  const marks = [{ column: first, x: 0 }];
+  pinches.forEach((column, at) => {
+    const before = marks[at], wanted = lines.length === pinches.length ? lines[at] : (column - first) * pitch;
+    const most = right - (last - column) * narrow;
+    marks.push({ column, x: Math.max(before.x + (column - before.column) * narrow, Math.min(wanted, most)) });
+  });
+  return [...marks, { column: last, x: right }];
 }
 
 /**

@@ -4,6 +4,7 @@ import { draw, fill, keyed, lettersChanged, make } from './dom.js';
 import { Geometry } from './geometry.js';
 import { exchangerShape, jointShape, lineShape, nameShape, pieceShape, pinchShape, rowShape } from './grid_shapes.js';
 import { GridKeys } from './grid_keys.js';
+import { meantAt } from './grid_hits.js';
 import { chosenAt, markOne, partnersOf } from './grid_marks.js';
 import { Drag } from './drag.js';
 import { viewChanged } from './state.js';
@@ -33,8 +34,12 @@ export class GridPart {
     /** @type {Geometry | null} */
     this.at = null;
     this.keys = new GridKeys(this);
+    // Not on the picture: a browser gives the focus to one that listens to it, and draws a frame around it.
+    panel.addEventListener('focusin', event => this.keys.entered(event));
     this.drag = new Drag(this);
     this.room = panel.clientWidth;
+    /** @type {number[]} where the pinch lines stand */
+    this.lines = [];
     this.scrolled = { left: 0, top: 0 };
     new ResizeObserver(() => this.resized()).observe(panel);
   }
@@ -48,6 +53,7 @@ export class GridPart {
   resized() {
     const room = this.panel.clientWidth;
     if (room === this.room && !lettersChanged()) return;
+    this.lines = this.lines.map(line => line * room / this.room);
     this.room = room;
     this.redraw(this.actions.state);
     this.mark(this.actions.state);
@@ -74,7 +80,9 @@ export class GridPart {
       return;
     }
     const focused = this.panel.contains(document.activeElement);
-    this.at = new Geometry(view.grid, this.room - PADDING);
+    this.at = new Geometry(view.grid, this.room - PADDING, this.lines);
+    this.lines = this.at.lines;
+    document.documentElement.style.setProperty('--diagram', `${Math.ceil(this.at.height)}px`);
     this.picture = this.drawn(view.grid, this.at);
     /** @type {HTMLElement} */
     const wide = make('div', { class: 'wide', scroll: () => this.remember(wide) },
@@ -112,7 +120,6 @@ export class GridPart {
   /** @param {SVGSVGElement} picture */
   listen(picture) {
     picture.addEventListener('keydown', event => this.keys.pressed(event));
-    picture.addEventListener('focusin', event => this.keys.entered(event));
     picture.addEventListener('pointerdown', event => this.drag.down(event));
     picture.addEventListener('click', event => this.clicked(event));
     // A finger that drags a piece does not move the page.
@@ -123,9 +130,10 @@ export class GridPart {
 
   /** @param {MouseEvent} event */
   clicked(event) {
-    if (this.drag.justEnded) return;
-    const chosen = chosenAt(event.target);
-    this.actions.choose(chosen);
+    const { picture, at } = this;
+    if (this.drag.justEnded || !picture) return;
+    const x = event.clientX - picture.getBoundingClientRect().left;
+    this.actions.choose(chosenAt(event.target) ?? chosenAt(meantAt(asElement(event.target), x, at)));
   }
 
   /**
@@ -174,6 +182,11 @@ export class GridPart {
       class: 'sign', x: at.x(exchanger.hot_x) + at.radius + 2 * at.scale, y: at.y(exchanger.hot_y) + 20 * at.scale,
     }, legs.get(exchanger.name) ? '+' : '−')));
   }
+}
+
+/** @param {EventTarget | null} target */
+function asElement(target) {
+  return target instanceof Element ? target : null;
 }
 
 /**

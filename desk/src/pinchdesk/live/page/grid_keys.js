@@ -29,7 +29,9 @@ export class GridKeys {
     this.stops = stopsOf(picture);
     const again = before && this.stops.find(stop => keyOf(stop) === keyOf(before) && stop.y === before.y);
     const same = before && this.stops.find(stop => keyOf(stop) === keyOf(before));
-    this.goTo(again || same || nearest(this.stops, before) || null, focused);
+    // Of what is gone the piece that is open then: Delete once more takes nothing else away.
+    const open = before && nearest(this.stops.filter(isPiece), before);
+    this.goTo(again || same || open || nearest(this.stops, before) || null, focused);
   }
 
   /**

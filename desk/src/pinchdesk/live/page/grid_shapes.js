@@ -39,7 +39,7 @@ export function pinchShape(pinch, level, at) {
   const middle = Math.max(half, Math.min(x, at.width - half));
   // The column of the line alone is no band.
   const band = pinch.end - pinch.begin > 1 && draw('rect', {
-    class: 'band', x: round(at.x(pinch.begin)), y: top, width: round(at.pitch * (pinch.end - pinch.begin)),
+    class: 'band', x: round(at.x(pinch.begin)), y: top, width: round(at.x(pinch.end) - at.x(pinch.begin)),
     height: bottom - top,
   }, draw('title', {}, 'here stands what works across the pinch'));
   return draw('g', { class: 'pinch' }, band,
@@ -101,7 +101,9 @@ function rowGroup(row) {
  */
 export function lineShape(line, side, at) {
   const y = at.y(line.y), from = at.x(line.begin), to = at.x(line.end), scale = at.scale;
-  const group = draw('g', { class: `line ${side}` }, draw('line', { x1: round(from), y1: y, x2: round(to), y2: y }));
+  const ends = { x1: round(from), y1: y, x2: round(to), y2: y };
+  const group = draw('g', { class: `line ${side}`, 'data-lane': line.y },
+    draw('line', { class: 'touch', ...ends }), draw('line', ends));
   if (line.arrow) {
     const way = side === 'hot' ? 1 : -1, tip = way > 0 ? Math.max(from, to) : Math.min(from, to);
     const back = round(tip - way * 8 * scale);
@@ -181,7 +183,7 @@ export function pieceShape(piece, at) {
   const x = at.x(piece.x), y = at.y(piece.y), text = pieceText(piece), wide = at.pill(text);
   return draw('g', {
     class: `piece ${piece.side}${piece.fault ? ' fault' : ''}`, 'data-piece': piece.id, 'data-key': `piece ${piece.id}`,
-    role: 'button', tabindex: -1, 'aria-haspopup': 'true',
+    'data-on': piece.y, role: 'button', tabindex: -1, 'aria-haspopup': 'true',
     'aria-label': piece.text,
   },
   draw('title', {}, piece.text),
