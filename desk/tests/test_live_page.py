@@ -69,7 +69,11 @@ def test_the_line_beside_a_piece_is_as_good_as_the_piece(page: LivePage) -> None
     assert page.attributes('.pinch line', 'x1') == lines
     ActionChains(page.driver).move_to_element_with_offset(page.piece('S2', '240'), 40, 0).click().perform()
     page.until(lambda: page.all('[data-key="offer 0"]') and 'S2: 240 kW open' in page.text('#chosen'))
-    assert not page.errors()
+    page.one('[data-key=most]').send_keys('50', Keys.ENTER)
+    page.until(lambda: ' 50 kW' in page.text('[data-key="offer 0"]'))
+    page.one('[data-key="offer 0"]').click()
+    page.until(lambda: len(page.exchangers()) == 2)
+    assert page.one('[data-key=duty]').get_attribute('value') == '50' and not page.errors()
 
 
 @pytest.mark.long

@@ -2,6 +2,7 @@
 from __future__ import annotations
 
 from pathlib import Path
+from typing import Any
 
 import pytest
 from live_desk import Hand, bench_of
@@ -80,3 +81,27 @@ def test_what_crosses_the_pinch_is_told_beside_the_duty(tmp_path: Path) -> None:
     bar = next(bar for bar in view.grid.exchangers if bar.name == 'E1')
     assert (bar.duty, bar.where, bar.crossing) == ('136', 'across', '4')
     assert bar.text == 'exchanger E1, S1 to S3, 136 kW, across the pinch, carries 4 kW across'
+
+
+def test_the_slider_has_one_end_and_whole_degrees(tmp_path: Path) -> None:
+    """What is kept by it lies on the same scale; a value beyond its end has one of its own."""
+    hand = Hand(bench_of(tmp_path, 'tc3'))
+    for text, most in (('20', 60.0), ('31.2', 60.0), ('60', 60.0), ('100', 120.0), ('30', 60.0)):
+        view = hand.view if text == hand.view.difference.text else hand.does('difference', difference=text)
+        assert (view.difference.text, view.difference.most, view.difference.step) == (text, most, 1.0)
+
+
+def test_a_duty_can_be_said_before_an_exchanger_is_placed(tmp_path: Path) -> None:
+    """Where a partner has less it is that; the offer tells what so much costs."""
+    hand = Hand(bench_of(tmp_path, 'tc3'))
+    piece = hand.piece('S1', 'above')
+    for typed, duty in (('60', '60'), ('400/3', '120'), ('200/3', '66.667'), ('119.5', '119.5')):
+        found = hand.bench.offers(hand.view.version, piece, typed)
+        assert isinstance(found, tuple) and found[0].duty == duty
+        for offer in found[:2]:
+            gesture: dict[str, Any] = dict(offer.gesture)
+            assert hand.does(**gesture).exchangers[0].duty == offer.duty
+            hand.does('undo')
+    for wrong in ('0', '-1', 'x'):
+        refused = hand.bench.offers(hand.view.version, piece, wrong)
+        assert not isinstance(refused, tuple) and refused.refused

@@ -13,7 +13,7 @@ from ..formats.amounts import seconds_of
 from ..program.run import Pinch
 from ..program.verdicts import TooFine
 from .areas import area_targets
-from .asked import Fields, Made, made_by
+from .asked import Fields, Made, heat_of, made_by
 from .case_lines import with_difference
 from .gestures import NotDone
 from .judgement import Whole, judged_stand
@@ -233,8 +233,8 @@ class Bench:
         except NotDone as fault:
             return GestureDone(self.view(), Refusal(str(fault)))
 
-    def offers(self, version: object, piece: str) -> tuple[Offer, ...] | GestureDone:
-        """The offers for a piece of what the page saw."""
+    def offers(self, version: object, piece: str, most: str = '') -> tuple[Offer, ...] | GestureDone:
+        """The offers for a piece of what the page saw, of no more than a heat as typed."""
         with self.lock:
             if version != self.version:
                 return GestureDone(self.shown(), stale=True)
@@ -242,8 +242,10 @@ class Bench:
         if known.plan is None:
             return ()
         try:
-            pinches = known.whole.pinches if known.whole else ()
-            return offers_of(self.knowing.pinch, known.cut_plan(), piece, known.reach, pinches)
+            pinches, limit = known.whole.pinches if known.whole else (), heat_of(known.plan, most) if most else None
+            if limit is not None and limit <= 0:
+                raise NotDone('A duty has to be above 0.')
+            return offers_of(self.knowing.pinch, known.cut_plan(), piece, known.reach, pinches, limit)
         except NotDone as fault:
             return GestureDone(self.view(), Refusal(str(fault)))
 

@@ -3,6 +3,7 @@ from __future__ import annotations
 
 from collections.abc import Sequence
 from fractions import Fraction
+from math import ceil
 
 from ..analysis.pinch_places import side_below, temperatures_at
 from ..formats.case import ANY_HEAT, Case, Side, Stream, Utility
@@ -32,9 +33,12 @@ def difference_of(case: Case) -> Difference:
     value = shown.units.shown_difference(2 * case.contribution)
     own = [source.name for source in case.sources if source.contribution != case.contribution]
     told = f'{", ".join(own)} with contributions of their own move by as much' if own else ''
-    most = max(Fraction(WIDTH), 2 * value)
+    # The end of the slider is another one only where the value lies beyond it: a thumb that is let go does not jump.
+    most, finest = Fraction(WIDTH), shown.units.shown_difference(2)
+    while most < value:
+        most *= 2
     return Difference(shown.difference(2 * case.contribution, PLACES), float(value), 0.0, float(most),
-                      float(shown.units.shown_difference(2)), told)
+                      float(finest * ceil(1 / finest)), told)
 
 
 def stream_rows(case: Case) -> tuple[StreamRow, ...]:

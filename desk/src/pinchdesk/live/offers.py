@@ -18,7 +18,7 @@ from .judgement import Reachable, money, reachable
 from .kinks import placed_along
 from .moving import move_end, own_pairs
 from .pieces import HandPlan, cut, side_at, utilities_for
-from .seats import Seat, Seated, seatings
+from .seats import Seat, Seated, seated, seatings
 from .view import Offer
 
 ASKED_AT_ONCE = 4
@@ -44,27 +44,27 @@ def partners(plan: HandPlan, piece: str) -> list[str]:
     return [*pieces, *(utility.name for utility in utilities_for(plan.case, stream))]
 
 
-def ways_to_place(plan: HandPlan, piece: str) -> Iterator[tuple[str, Seated]]:
-    """All ways to serve a piece of a plan that is cut."""
+def ways_to_place(plan: HandPlan, piece: str, most: Fraction | None = None) -> Iterator[tuple[str, Seated]]:
+    """All ways to serve a piece of a plan that is cut, with no more than so much heat."""
     hot = plan.piece(piece).stream.side is Side.HOT
     for partner in partners(plan, piece):
         pair = (piece, partner) if hot else (partner, piece)
-        found = sorted(seatings(plan, *pair), key=lambda chosen: -chosen.duty)
+        found = sorted(seatings(plan, *pair, most), key=lambda chosen: -chosen.duty)
         yield from ((partner, chosen) for chosen in found[:MOST_WAYS])
 
 
 def offers_of(pinch: Pinch, plan: HandPlan, piece: str, before: Reachable | None,
-              pinches: Sequence[PinchPoint] = ()) -> tuple[Offer, ...]:
-    """All offers for a piece of a plan that is cut, the best first: what costs least, then what has the larger duty,
-    then what wants no split."""
-    ways = list(ways_to_place(plan, piece))
-    made = [placed_along(plan, chosen, pinches) for _, chosen in ways]
+              pinches: Sequence[PinchPoint] = (), most: Fraction | None = None) -> tuple[Offer, ...]:
+    """All offers for a piece of a plan that is cut, of no more than so much heat, the best first: what costs least,
+    then what has the larger duty, then what wants no split."""
+    ways = list(ways_to_place(plan, piece, most))
+    made = [seated(plan, chosen) if chosen.duty == most else placed_along(plan, chosen, pinches) for _, chosen in ways]
     with ThreadPoolExecutor(ASKED_AT_ONCE) as pool:
         after = list(pool.map(lambda placed: reachable(pinch, placed), made))
     offers = [PricedOffer(chosen, partner, placed, found)
               for (partner, chosen), placed, found in zip(ways, made, after)]
     offers.sort(key=lambda offer: rank(plan, offer, before))
-    return tuple(told(plan, piece, offer, before, pinches) for offer in offers)
+    return tuple(told(plan, piece, offer, before, pinches, offer.chosen.duty == most) for offer in offers)
 
 
 @dataclass(frozen=True)
@@ -151,9 +151,9 @@ def priced(shown: Shown, after: Reachable | None, before: Reachable | None) -> t
     return price, cost == 0 and not more
 
 
-def told(plan: HandPlan, piece: str, offer: PricedOffer, before: Reachable | None,
-         pinches: Sequence[PinchPoint]) -> Offer:
-    """An offer in words."""
+def told(plan: HandPlan, piece: str, offer: PricedOffer, before: Reachable | None, pinches: Sequence[PinchPoint],
+         limited: bool) -> Offer:
+    """An offer in words; one whose duty was limited says that duty in its gesture."""
     shown, chosen = Shown(plan.case.basis), offer.chosen
     heat = sum((offer.made.duties[name] for name in offer.made.placed if name not in plan.pairs), Fraction(0))
     duty = f'{shown.heat(heat)} {shown.heat_unit}'
@@ -165,12 +165,17 @@ def told(plan: HandPlan, piece: str, offer: PricedOffer, before: Reachable | Non
     partner = offer.partner
     is_utility = partner in plan.utilities
     gesture = {'kind': 'place', 'piece': piece, 'partner': partner, 'hot_seat': chosen.hot_seat.value,
-               'cold_seat': chosen.cold_seat.value}
+               'cold_seat': chosen.cold_seat.value, **({'duty': exact_heat(shown, chosen.duty)} if limited else {})}
     words = ', '.join((duty, *ended_told(plan, offer.made, ended, pinches)))
     return Offer(partner, 'utility' if is_utility else 'piece',
                  partner if is_utility else whole_name(plan.case, plan.piece(partner).stream.name), shown.heat(heat),
                  words,
                  price + (f' ({seats})' if seats else ''), free, bool(ended), gesture)
+
+
+def exact_heat(shown: Shown, heat: Fraction) -> str:
+    """A heat in the unit of the case, not rounded."""
+    return str(shown.in_heat(heat))
 
 
 def ended_told(plan: HandPlan, made: HandPlan, ended: Sequence[str], pinches: Sequence[PinchPoint]) -> list[str]:

@@ -157,7 +157,9 @@ class LiveDesk:
             self.tell()
             return told(done)
         if path == 'offers' and isinstance(asked.get('piece'), str):
-            return listed('offers', await run_in_threadpool(self.bench.offers, version, asked['piece']))
+            most = asked.get('most')
+            limit = most if isinstance(most, str) else ''
+            return listed('offers', await run_in_threadpool(self.bench.offers, version, asked['piece'], limit))
         if path == 'moves' and isinstance(asked.get('exchanger'), str):
             return listed('offers', await run_in_threadpool(self.bench.moves, version, asked['exchanger']))
         if path == 'ways':

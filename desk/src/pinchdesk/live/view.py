@@ -10,8 +10,9 @@ What the page asks, below `/TOKEN/`:
 - `POST gesture {"version": n, "gesture": {"kind": ..}}` answers `{"view": View}`, or with the status 200 too
   `{"refused": Refusal, "view": View}` where the gesture cannot be done: then nothing has changed. Another version than
   the present one is answered by 409 with `{"view": View}`.
-- `POST offers {"version": n, "piece": id}` answers `{"offers": [Offer, ..]}`, the best first; a drop on a partner takes
-  the first offer with this `partner`, and the page sends its `gesture` as it is. The same for 409.
+- `POST offers {"version": n, "piece": id, "most"?: text}` answers `{"offers": [Offer, ..]}` of no more than this heat,
+  the best first, or `{"refused": Refusal, "view": View}`; a drop on a partner takes the first offer with this
+  `partner`, and the page sends its `gesture` as it is. The same for 409.
 - `POST ways {"version": n, "exchanger"?: name}` answers a `WaysFound`; of too many ways it is those through the
   exchanger. The same for 409.
 - `POST slider {"version": n, "difference": text}` answers a `Slider`, or `{"refused": Refusal}`; nothing is written.
@@ -358,7 +359,8 @@ class Texts:
 @dataclass(frozen=True)
 class Difference:
     """The least approach of the case: twice its contribution. `own` says what moves with it where sources have their
-    own, else it is empty. The slider goes from `least` to `most` (floats in the unit of differences) by `step`."""
+    own, else it is empty. The slider goes from `least` to `most` (floats in the unit of differences) by `step`, about a
+    degree; what is finer is typed."""
 
     text: str
     value: float

@@ -177,28 +177,32 @@ export class Actions {
   /**
    * What a piece may be matched with, asked once for each version.
    * @param {string} piece
+   * @param {string} [limit] the heat of which an exchanger may have no more; else what was said for this piece
    * @returns {Promise<Offer[]>}
    */
-  offer(piece) {
-    const { offers, view } = this.state;
-    const at = `${view.version} ${piece}`;
+  offer(piece, limit) {
+    const { offers, view } = this.state, most = limit ?? (offers?.piece === piece ? offers.most : '');
+    const at = `${view.version} ${piece} ${most}`;
     if (offers && offers.piece === piece && this.asked && this.askedAt === at) return this.asked;
     this.askedAt = at;
-    this.store.set({ offers: { piece, list: null } });
-    this.asked = this.last.then(() => this.findOffers(piece));
+    this.store.set({ offers: { piece, most, list: null } });
+    this.asked = this.last.then(() => this.findOffers(piece, most));
     return this.asked;
   }
 
   /**
    * @param {string} piece
+   * @param {string} most
    * @returns {Promise<Offer[]>}
    */
-  async findOffers(piece) {
+  async findOffers(piece, most) {
     const version = this.state.view.version;
     try {
-      const list = await this.talk.offers(version, piece) ?? [];
-      const { offers, view } = this.state;
-      if (offers && offers.piece === piece && view.version === version) this.store.set({ offers: { piece, list } });
+      const answer = await this.talk.offers(version, piece, most);
+      const list = answer && 'offers' in answer ? answer.offers : [];
+      if (answer && 'refused' in answer) this.store.set({ refusal: answer.refused });
+      const { offers, view } = this.state, wanted = offers && offers.piece === piece && offers.most === most;
+      if (wanted && view.version === version) this.store.set({ offers: { piece, most, list } });
       return list;
     } catch (cause) {
       this.failed(cause);

@@ -62,7 +62,7 @@ export class ChosenPart {
    */
   pieceContent(piece, state) {
     const { offers, view } = state, { actions } = this;
-    const list = offers && offers.piece === piece.id ? offers.list : null;
+    const of = offers && offers.piece === piece.id ? offers : null, list = of && of.list;
     const utilities = view.utilities.filter(utility => utility.side !== piece.side);
     return [
       title(`${piece.stream}: ${piece.duty} ${view.units.heat} open`,
@@ -78,7 +78,7 @@ export class ChosenPart {
           type: 'button', 'data-key': `serve ${utility.name}`,
           click: () => actions.do({ kind: 'utility', piece: piece.id, utility: utility.name }),
         }, `serve by ${utility.name}`)),
-        splitForm(piece, actions)),
+        splitForm(piece, actions), limitForm(piece, of ? of.most : '', view, actions)),
     ];
   }
 
@@ -195,6 +195,27 @@ function splitForm(piece, actions) {
       asks([share], () => actions.do({ kind: 'split', piece: piece.id, share: share.value }));
     },
   }, make('button', { 'data-key': 'split' }, 'split here'), ' ', share, ' %');
+}
+
+/**
+ * Partners for no more than so much heat.
+ * @param {OpenPill} piece
+ * @param {string} most
+ * @param {View} view
+ * @param {Actions} actions
+ */
+function limitForm(piece, most, view, actions) {
+  const field = make('input', {
+    value: most, size: 6, inputmode: 'decimal', 'aria-label': `place no more than so much, in ${view.units.heat}`,
+    'data-key': 'most', placeholder: piece.duty,
+  });
+  return make('form', {
+    submit: (/** @type {Event} */ event) => {
+      event.preventDefault();
+      field.dataset.sent = field.value;
+      actions.offer(piece.id, field.value.trim());
+    },
+  }, make('button', { 'data-key': 'limit' }, 'place at most'), ' ', field, ` ${view.units.heat}`);
 }
 
 /**

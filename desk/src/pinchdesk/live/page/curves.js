@@ -32,6 +32,7 @@ export class CurvesPart {
       type: 'range', 'aria-label': 'least approach ΔTmin', 'data-key': 'slider',
       input: () => this.slid(), keydown: (/** @type {KeyboardEvent} */ event) => this.pressed(event),
     });
+    this.ends = make('div', { class: 'heading pale', 'aria-hidden': 'true' });
     this.picture = make('div', { class: 'picture' });
     this.choices = make('div', { class: 'choices' });
     this.unit = make('span');
@@ -41,7 +42,7 @@ export class CurvesPart {
       make('button', { type: 'button', click: () => this.actions.letGo() }, 'back (Esc)'));
     this.own = make('p', { class: 'pale' });
     fill(panel, make('div', { class: 'heading' }, make('h2', { id: 'curves-title' }, 'Curves'), this.choices),
-      this.picture, this.slider,
+      this.picture, this.slider, this.ends,
       make('div', { class: 'approach' }, make('label', {}, 'ΔTmin ', this.field), this.unit, this.told),
       this.keep, this.own);
   }
@@ -93,6 +94,8 @@ export class CurvesPart {
     this.slider.min = String(difference.least);
     this.slider.max = String(difference.most);
     this.slider.step = String(difference.step);
+    fill(this.ends, make('span', {}, String(difference.least)),
+      make('span', {}, `${difference.most} ${view.units.difference}`));
     if (!slider) {
       this.slider.value = String(difference.value);
       this.field.value = this.field.defaultValue = difference.text;

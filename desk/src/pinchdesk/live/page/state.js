@@ -8,7 +8,7 @@
 /** @typedef {import('./contract.js').WaysFound} WaysFound */
 
 /** @typedef {{kind: 'exchanger' | 'piece' | 'joint', name: string}} Chosen */
-/** @typedef {{piece: string, list: Offer[] | null}} Offers `list` is null until it is there */
+/** @typedef {{piece: string, most: string, list: Offer[] | null}} Offers of at most so much; `list` is null at first */
 /** @typedef {{exchanger: string, list: Offer[] | null}} Moves where its ends can go; null until it is there */
 /** @typedef {{exchanger: string, list: Offer[]}} Instead other places for an exchanger that was just placed */
 

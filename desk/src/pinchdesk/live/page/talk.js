@@ -80,11 +80,12 @@ export class Talk {
    * What an open piece may be matched with; null where the state has changed meanwhile.
    * @param {number} version
    * @param {string} piece
-   * @returns {Promise<Offer[] | null>}
+   * @param {string} most the heat of which an exchanger may have no more, empty where it may
+   * @returns {Promise<{offers: Offer[]} | {refused: Refusal} | null>}
    */
-  async offers(version, piece) {
-    const { status, content } = await this.ask('offers', { version, piece });
-    return status === 409 ? null : content.offers ?? [];
+  async offers(version, piece, most) {
+    const { status, content } = await this.ask('offers', { version, piece, ...(most && { most }) });
+    return status === 409 ? null : content;
   }
 
   /**
