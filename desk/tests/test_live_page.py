@@ -88,18 +88,18 @@ def test_tc3_is_made_broken_and_mended(page: LivePage, desk: OpenDesk) -> None:
     page.says('107.5 kW')
     assert len(page.exchangers()) == 7
     assert audited(desk) == 'accepted'
-    breaking = page.until(lambda: [button for button in page.all('#ways button') if '20 kW' in button.text])[0]
-    breaking.click()
+    page.until(lambda: page.all('#ways[aria-busy=false]'))
+    page.button('break it: E4 goes (20 kW)', '#ways').click()
     page.says('Rejected', '80 °C', '62 °C', '18 K')
     assert page.all('.exchanger.fault')
-    mending = page.until(lambda: page.all('#ways .mending'))[0]
+    mending = page.until(lambda: page.all('#ways[aria-busy=false] .mending'))[0]
     assert '4 to 140' in mending.text
     # The grid shows the path whose box has the focus, not one that came below the resting pointer.
     names = {leg[1:] for leg in str(mending.get_attribute('data-way')).split(',')}
     page.until(lambda: set(page.attributes('.exchanger.leg', 'data-exchanger')) == names)
     page.picture('live-broken')
     field = mending.find_element(By.CSS_SELECTOR, 'input')
-    assert field.get_attribute('value') == '4'
+    assert field.get_attribute('value') == '4' and page.one('#ways').get_property('scrollTop') == 0
     mending.find_element(By.XPATH, './/button[.="move"]').click()
     page.says('Accepted', '111.5 kW')
     assert len(page.exchangers()) == 6

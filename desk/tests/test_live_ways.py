@@ -104,6 +104,7 @@ def test_each_exchanger_that_is_too_close_is_marked_and_paths_say_what_they_mend
     assert any(path.kind == 'path' and path.mends and path.leaves for path in found)
     for path in found:
         if not path.mends:
+            assert not path.first and set(path.leaves) == close
             continue
         view = hand.does('shift', way=path.id, heat=path.first)
         right = {row.name for row in view.exchangers if not row.fault}

@@ -95,13 +95,12 @@ def test_a_duty_can_be_said_before_an_exchanger_is_placed(tmp_path: Path) -> Non
     """Where a partner has less it is that; the offer tells what so much costs."""
     hand = Hand(bench_of(tmp_path, 'tc3'))
     piece = hand.piece('S1', 'above')
-    for typed, duty in (('60', '60'), ('400/3', '120'), ('200/3', '66.667'), ('119.5', '119.5')):
+    for typed, duty in (('60', '60'), ('400/3', '120'), ('200/3', '66.667')):
         found = hand.bench.offers(hand.view.version, piece, typed)
         assert isinstance(found, tuple) and found[0].duty == duty
-        for offer in found[:2]:
-            gesture: dict[str, Any] = dict(offer.gesture)
-            assert hand.does(**gesture).exchangers[0].duty == offer.duty
-            hand.does('undo')
+        gesture: dict[str, Any] = dict(found[0].gesture)
+        assert hand.does(**gesture).exchangers[0].duty == duty
+        hand.does('undo')
     for wrong in ('0', '-1', 'x'):
         refused = hand.bench.offers(hand.view.version, piece, wrong)
         assert not isinstance(refused, tuple) and refused.refused

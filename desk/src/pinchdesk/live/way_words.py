@@ -49,7 +49,7 @@ class WayWords:
         cost, saves = self.costs(ranged)
         legs = tuple(WayLeg(leg.exchanger, leg.gains) for leg in way.legs)
         # What is in the box beforehand can be moved by a slip: only what is of use.
-        first = least if ranged.mends else most if saves else ''
+        first = least if ranged.mends else most if saves and not ranged.leaves else ''
         return WayOffer(ranged.identity, 'loop' if way.loop else 'path', way.told, legs, least, most, ranged.stops,
                         ranged.mends, ranged.leaves, self.breaks(ranged) if way.loop else '', first, cost)
 

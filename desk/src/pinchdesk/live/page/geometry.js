@@ -156,7 +156,7 @@ export function lowerEnd(bar) {
  * @param {ExchangerBar} bar
  */
 export function dutyText(bar) {
-  const across = bar.where === 'across' ? ` (↯${bar.crossing && ` ${bar.crossing}`})` : '';
+  const across = bar.where === 'across' ? ` (↯ ${bar.crossing || '0'})` : '';
   return (bar.fault ? '⚠ ' : '') + bar.duty + across;
 }
 

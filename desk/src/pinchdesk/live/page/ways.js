@@ -46,8 +46,11 @@ export class WaysPart {
       ? make('ol', { class: 'ways' }, ...ways.map(way => this.item(way, state.view))) : make('p', {}, NONE),
     more && make('p', { class: 'pale' }, more));
     if (scrolled) this.panel.scrollTop = scrolled;
-    // What had the focus is gone: it goes to what mends, and where nothing has to be mended back to the diagram.
-    if (key !== null && !keyed(this.panel, key) && !ways[0]?.mends.length) this.back();
+    if (key === null || keyed(this.panel, key)) return;
+    // What had the focus is gone: it is in the first box, which mends, or else goes back to the diagram.
+    this.panel.scrollTop = 0;
+    if (!ways[0]?.mends.length) this.back();
+    else if (document.activeElement instanceof HTMLInputElement) document.activeElement.select();
   };
 
   /** @param {PointerEvent} event */
@@ -75,7 +78,7 @@ export class WaysPart {
   item(way, view) {
     const { actions } = this;
     const mends = way.mends.length > 0 && make('strong', { class: 'mends' }, ` mends ${way.mends.join(', ')}`);
-    const leaves = mends && way.leaves.length > 0 && `, not ${way.leaves.join(', ')}`;
+    const leaves = way.leaves.length > 0 && `${mends ? ', not' : ' does not mend'} ${way.leaves.join(', ')}`;
     return make('li', { class: way.mends.length ? 'mending' : '', 'data-way': way.id },
       make('p', {}, make('b', {}, way.kind), ' ', way.text, mends, leaves),
       way.most ? this.mover(way, view) : make('p', { class: 'pale' }, `nothing can be moved: ${way.ends}`),
