@@ -2,7 +2,7 @@
 targets` of what would be left."""
 from __future__ import annotations
 
-from collections.abc import Callable
+from collections.abc import Callable, Sequence
 from concurrent.futures import ThreadPoolExecutor
 from dataclasses import dataclass
 from fractions import Fraction
@@ -10,10 +10,11 @@ from fractions import Fraction
 from ..formats.case import Side
 from ..formats.shown import Shown
 from ..program.run import Pinch
+from .faults import listed
 from .judgement import Reachable, money, reachable
 from .pieces import HandPlan
 from .view import WayLeg, WayOffer, WaysFound
-from .ways import Ranged, RangedWays, moved
+from .ways import Bound, Ranged, RangedWays, moved
 
 ASKED_AT_ONCE = 4
 
@@ -90,7 +91,7 @@ class WayWords:
         """What goes where a loop is broken, what that costs, and what is too close then."""
         shown, heat = self.shown, self.plan.duties[ranged.goes]
         told = f'{ranged.goes} goes ({shown.heat(heat)} {shown.heat_unit}), {self.change(ranged, heat).told(shown)}'
-        return told + (f'; {", ".join(ranged.breaks)} then' if ranged.breaks else '')
+        return told + (f'; {wrong_then(ranged.breaks)} then' if ranged.breaks else '')
 
 
 @dataclass(frozen=True)
@@ -121,6 +122,14 @@ class WayCost:
             f'saves {"" if exact else "at least "}{heat}'
         more = after.cost - before.cost if after.cost is not None and before.cost is not None else Fraction(0)
         return told + (f', {money(shown, abs(more))} {"more" if more > 0 else "less"}' if more else '')
+
+
+def wrong_then(limits: Sequence[Bound]) -> str:
+    """What is wrong where something goes: of one thing also where, of several their names."""
+    if len(limits) == 1:
+        return limits[0].told
+    close = all('too close' in limit.told for limit in limits)
+    return f'{listed(list(dict.fromkeys(limit.place for limit in limits)))} {"too close" if close else "wrong"}'
 
 
 def more_told(found: RangedWays) -> str:

@@ -32,7 +32,7 @@ class Bound:
 class Ranged:
     """A way with the heat that can be moved along it, from `least` to `most`, so that nothing becomes wrong that is
     right, both None where none can; what stops it at the upper end; of what is wrong now what it mends within this
-    range and what it leaves; the exchanger that goes where so much is moved, and what is wrong only then, in words."""
+    range and what it leaves; the exchanger that goes where so much is moved, and what is wrong only then."""
 
     way: Shift
     least: Fraction | None
@@ -41,7 +41,7 @@ class Ranged:
     mends: tuple[str, ...]
     leaves: tuple[str, ...]
     goes: str
-    breaks: tuple[str, ...]
+    breaks: tuple[Bound, ...]
 
     @property
     def identity(self) -> str:
@@ -129,7 +129,7 @@ def with_range(plan: HandPlan, way: Shift, limits: Sequence[Bound]) -> Ranged:
     ends += [(limit.base / -limit.slope, limit.told) for limit in limits if limit.slope < 0 <= limit.base]
     goes = min(losing, key=lambda name: plan.duties[name])
     gone = plan.duties[goes]
-    breaks = tuple(limit.told for limit in limits
+    breaks = tuple(limit for limit in limits
                    if limit.place != goes and limit.base + gone * limit.slope < 0 <= limit.base)
     most, stops = min(ends, key=lambda end: end[0])
     wrong = [limit for limit in limits if limit.base < 0]
