@@ -80,7 +80,7 @@ def test_what_crosses_the_pinch_is_told_beside_the_duty(tmp_path: Path) -> None:
     assert view.grid
     bar = next(bar for bar in view.grid.exchangers if bar.name == 'E1')
     assert (bar.duty, bar.where, bar.crossing) == ('136', 'across', '4')
-    assert bar.text == 'exchanger E1, S1 to S3, 136 kW, across the pinch, carries 4 kW across'
+    assert bar.text == 'exchanger E1, S1 to S3, 136 kW, across the pinch, carries 4 kW down across it'
 
 
 def test_the_slider_has_one_end_and_whole_degrees(tmp_path: Path) -> None:

@@ -216,11 +216,13 @@ def bar_of(lines: Lines, name: str) -> ExchangerBar:
     (hot_x, hot_y), (cold_x, cold_y) = (end_at(lines, name, side) for side in Side)
     kind = 'heater' if hot in plan.utilities else 'cooler' if cold in plan.utilities else 'match'
     where, carried = place_of(lines, name)
+    way = 'up across' if carried.startswith('-') else 'down across'
     duty = shown.heat(plan.duties[name])
     fault = lines.faults.get(name, '')
     text = ', '.join(part for part in (
         f'{"exchanger" if kind == "match" else kind} {name}', f'{hot} to {cold}', f'{duty} {shown.heat_unit}',
-        words_for(where), f'carries {carried} {shown.heat_unit} across' if carried else '', fault) if part)
+        words_for(where), f'carries {carried.removeprefix("-")} {shown.heat_unit} {way} it' if carried else '', fault)
+        if part)
     return ExchangerBar(name, kind, hot, cold, duty, hot_x, hot_y, cold_x, cold_y, where, carried, fault, text)
 
 

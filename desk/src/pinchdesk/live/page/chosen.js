@@ -1,6 +1,7 @@
 // The panel of what is chosen in the diagram: the partners of an open piece, an exchanger, a split.
 
 import { asks, fill, keyed, make } from './dom.js';
+import { crossingText } from './geometry.js';
 import { partnersOf } from './grid_marks.js';
 import { changed } from './state.js';
 
@@ -316,7 +317,7 @@ function facts(name, view) {
  * @param {string} heat
  */
 function pinchText(where, crossing, heat) {
-  return !where ? 'there is none' : where + (crossing && `, ${crossing} ${heat} of its duty`);
+  return !where ? 'there is none' : where + (crossing && `, ${crossingText(crossing)} (${heat})`);
 }
 
 /**

@@ -156,8 +156,16 @@ export function lowerEnd(bar) {
  * @param {ExchangerBar} bar
  */
 export function dutyText(bar) {
-  const across = bar.where === 'across' ? ` (↯ ${bar.crossing || '0'})` : '';
+  const across = bar.where === 'across' ? ` (↯ ${crossingText(bar.crossing)})` : '';
   return (bar.fault ? '⚠ ' : '') + bar.duty + across;
+}
+
+/**
+ * What an exchanger carries across a pinch, down unless it says so.
+ * @param {string} crossing
+ */
+export function crossingText(crossing) {
+  return crossing.startsWith('-') ? `${crossing.slice(1)} up` : crossing || '0';
 }
 
 /** @param {import('./contract.js').OpenPill} piece */

@@ -142,7 +142,8 @@ export function jointShape(joint, side, at) {
  */
 export function exchangerShape(exchanger, grid, at) {
   const [x, y, u, v] = [at.x(exchanger.hot_x), at.y(exchanger.hot_y), at.x(exchanger.cold_x), at.y(exchanger.cold_y)];
-  const middle = at.y(grid.band), bend = Math.min(at.lane / 3, 14 * at.scale);
+  const bend = Math.min(at.lane / 3, 14 * at.scale);
+  const middle = at.y(grid.band) + (x === u ? 0 : slantOf(exchanger, grid) * at.scale);
   const way = x === u ? `M${round(x)} ${y}V${v}`
     : `M${round(x)} ${y}V${middle - bend}L${round(u)} ${middle + bend}V${v}`;
   const low = lowerEnd(exchanger);
@@ -157,6 +158,16 @@ export function exchangerShape(exchanger, grid, at) {
   write(at.x(low.x), at.y(low.y) + at.radius + 12 * at.scale, dutyText(exchanger), {
     class: 'duty', 'text-anchor': 'middle',
   }));
+}
+
+/**
+ * By how much the slant of an exchanger lies lower than the middle, so that those beside one another do not cross.
+ * @param {ExchangerBar} exchanger
+ * @param {GridPicture} grid
+ */
+function slantOf(exchanger, grid) {
+  const slants = grid.exchangers.filter(bar => bar.hot_x !== bar.cold_x).sort((one, other) => one.hot_x - other.hot_x);
+  return (slants.indexOf(exchanger) - (slants.length - 1) / 2) * Math.min(10, 40 / slants.length) || 0;
 }
 
 /**
