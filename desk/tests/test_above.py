@@ -37,7 +37,7 @@ def above_the_least(pinch: Pinch, name: str, percents: dict[int, int]) -> Iterat
         yield found
 
 
-@pytest.mark.parametrize('name, percents', few_rows(ENOUGH, ('preheater',)))
+@pytest.mark.parametrize('name, percents', few_rows(ENOUGH, ()))
 def test_more_cost_is_never_more_exchangers(name: str, percents: dict[int, int], pinch: Pinch) -> None:
     counts = [found.exchangers for found in above_the_least(pinch, name, percents)]
     assert counts == sorted(counts, reverse=True)

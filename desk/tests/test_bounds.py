@@ -132,7 +132,7 @@ FORMS = [
     'kind;name;supply;target;CP;price {}\n;H1;150;60;2;\nheater;HP;180;;;30 {}\n', '{}\n', 'H1;150;60;2;;;{}\n']
 
 
-@pytest.mark.parametrize('atom', few_of(ATOMS, ('(', 'a_', '1000 kcal/h ', 'sum ')))
+@pytest.mark.parametrize('atom', few_of(ATOMS, ('(', 'a_', '1000 kcal/h ')))
 def test_no_long_text_takes_long(atom: str) -> None:
     text = (atom * LONG)[:LONG]
     begun = time.process_time()

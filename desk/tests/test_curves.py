@@ -61,7 +61,7 @@ def assert_readable(figure: Figure) -> None:
     assert pale(figure) == []
 
 
-@pytest.mark.parametrize('name', few_of(CASES, ('four-stream', 'three-levels', 'two-steam-levels')))
+@pytest.mark.parametrize('name', few_of(CASES, ('two-steam-levels',)))
 def test_curves_show_targets_and_pinches_on_both_scales(name: str, pinch: Pinch) -> None:
     content = example(f'{name}.csv')
     figure, case, targets = curves(pinch, content), read_case(content), pinch.targets(content)
@@ -211,6 +211,7 @@ def test_labels_do_not_lie_on_curves(name: str, pinch: Pinch) -> None:
                 assert not any(meets(box, one, other) for one, other in zip(points, points[1:]))
 
 
+@pytest.mark.long
 def test_a_furnace_does_not_squeeze_the_curves(pinch: Pinch) -> None:
     figure = curves(pinch, FURNACE)
     assert_readable(figure)

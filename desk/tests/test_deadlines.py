@@ -49,6 +49,7 @@ def test_a_network_is_there_when_its_time_is_over(name: str, pinch: Pinch) -> No
     assert taken(search) < SECONDS + AFTER
 
 
+@pytest.mark.long
 def test_a_trade_off_is_there_when_its_time_is_over(pinch: Pinch) -> None:
     case = example('refinery.csv')
 

@@ -4,7 +4,7 @@ from __future__ import annotations
 
 import ast
 from collections import Counter
-from collections.abc import Iterator
+from collections.abc import Iterable, Iterator
 from functools import cache
 from pathlib import Path
 
@@ -33,10 +33,19 @@ def tree_of(module: tuple[str, ...]) -> ast.Module:
     return ast.parse(file_of(module).read_text(encoding='utf-8'))
 
 
+def statements(body: Iterable[ast.AST]) -> Iterator[ast.AST]:
+    """All statements below some, and not what stands within expressions: no import and no class does."""
+    for node in body:
+        yield node
+        if isinstance(node, (ast.stmt, ast.ExceptHandler, ast.match_case)):
+            for field in ('body', 'orelse', 'finalbody', 'handlers', 'cases'):
+                yield from statements(getattr(node, field, ()))
+
+
 def used_by(module: tuple[str, ...]) -> Iterator[str]:
     """The packages that a module names in an import, wherever it stands."""
     here = module if SOURCE.joinpath(*module).is_dir() else module[:-1]
-    for node in ast.walk(tree_of(module)):
+    for node in statements(tree_of(module).body):
         if isinstance(node, ast.ImportFrom) and node.level:
             base = here[:len(here) - node.level + 1]
             named = [*base, *(node.module or '').split('.')] if node.module else list(base)

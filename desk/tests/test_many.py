@@ -332,6 +332,7 @@ def test_a_process_that_dies_loses_no_case(folder: Path, tmp_path: Path, monkeyp
     assert (tmp_path / 'died').is_dir()
 
 
+@pytest.mark.long
 @pytest.mark.processes
 def test_a_case_at_which_each_process_dies_is_given_up(folder: Path, tmp_path: Path,
                                                        monkeypatch: pytest.MonkeyPatch) -> None:
@@ -351,6 +352,7 @@ def test_an_error_of_the_desk_is_an_outcome(monkeypatch: pytest.MonkeyPatch) -> 
     assert outcome.status == 70 and outcome.told.startswith('the desk failed, please report this line: ZeroDivisionErr')
 
 
+@pytest.mark.long
 def test_processes_that_cannot_be_forked_are_started(folder: Path, tmp_path: Path) -> None:
     """As after a search for networks in a notebook or a script, which is not run once more."""
     script = tmp_path / 'script.py'

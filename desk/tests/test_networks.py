@@ -132,7 +132,7 @@ HEAT = 'Stream;Kind;Supply (°C);Target (°C);CP (kW/K);Price (EUR/MWh)\nH1;;150
 # A table, what its heats are taken times, its cost, and that cost's unit.
 PRICED = [(HEAT + 'LP;heater;180;;;30,05\n', '10', '2.479', 'EUR/h'), (HEAT, '10', '82500', 'price times W'),
           (HEAT.replace('EUR/MWh', 'EUR/(kW a)') + 'LP;heater;180;;;20\n', '0.1', '1650', 'EUR/a')]
-UNITS = [pytest.param(*row, id=unit, marks=[pytest.mark.long] if unit != 'per MWh' else [])
+UNITS = [pytest.param(*row, id=unit, marks=pytest.mark.long)
          for row, unit in zip(PRICED, ('per MWh', 'no price', 'per kW and year'))]
 
 

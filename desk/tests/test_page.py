@@ -183,11 +183,15 @@ def test_a_page_is_written_whole_or_not_at_all(tmp_path: Path) -> None:
     assert sorted(file.name for file in tmp_path.iterdir()) == ['-page.html', "it's - a case.csv"]
 
 
+def long(*row: object) -> Any:
+    return pytest.param(*row, marks=pytest.mark.long)
+
+
 @pytest.mark.parametrize(('words', 'status'), [
     (('draw', 'curves', '{four-stream.csv}', '-o', 'a b/curves -1.svg'), 0),
     (('draw', 'curves', '{too-little-cooling.csv}', '-o', 'c.png'), 1),
-    (('draw', 'grid', '{preheater.csv}', '{preheater-network.txt}', '-o', '-grid.pdf'), 0),
-    (('draw', 'sweep', '{four-stream.csv}', '0', '20', '10', '-o', 's.svg'), 0),
+    long(('draw', 'grid', '{preheater.csv}', '{preheater-network.txt}', '-o', '-grid.pdf'), 0),
+    long(('draw', 'sweep', '{four-stream.csv}', '0', '20', '10', '-o', 's.svg'), 0),
     (('draw', 'site', '{three-plants.csv}', '-o', 'site.svg'), 0),
     (('draw', 'curves', '{four-stream.csv}', '-o', 'c.gif'), 2),
     (('draw', 'curves', '{four-stream.csv}'), 2),
@@ -195,7 +199,7 @@ def test_a_page_is_written_whole_or_not_at_all(tmp_path: Path) -> None:
     (('page', '{four-stream.csv}', '-o', 'page.doc'), 2),
     (('draw', 'grid', '{four-stream.csv}', '{tc3-network.txt}', '-o', 'g.svg'), 3),
     (('draw', 'grid', '{four-stream.csv}', 'less.txt', '-o', 'g.svg'), 1),
-    (('page', '{four-stream.csv}', '{four-stream-network.txt}', 'less.txt', '-o', 'p.html'), 1),
+    long(('page', '{four-stream.csv}', '{four-stream-network.txt}', 'less.txt', '-o', 'p.html'), 1),
 ])
 def test_pictures_are_files_and_have_statuses(words: tuple[str, ...], status: int, tmp_path: Path,
                                               monkeypatch: pytest.MonkeyPatch) -> None:

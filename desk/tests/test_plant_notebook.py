@@ -88,7 +88,7 @@ def test_an_audit_is_that_of_pinch(pinch: Pinch) -> None:
 
 def test_a_network_is_searched_and_given_back() -> None:
     tc3_plant = read(EXAMPLES / 'tc3.csv')
-    found = tc3_plant.network(above='2 %', seconds=3)
+    found = tc3_plant.network(above='2 %', seconds=0.6)
     audit = tc3_plant.audit(found)
     assert audit.accepted and (audit.cost, audit.floor) == (found.cost, found.floor)
     assert audit.exact == found.exact and found.exact.cost <= found.exact.floor * Fraction(102, 100)
@@ -104,7 +104,7 @@ def every_answer() -> list[PlantAnswer]:
     return [plant().targets(), plant().flow(), plant().sweep(0, 4, 2, 1), plant().audit(NETWORK),
             plant().table(NETWORK), plant().units(NETWORK), begun.rest(EXAMPLES / 'four-stream-begun.txt'),
             levels.prices(EXAMPLES / 'steam-prices.csv', 1), levels.what_if(EXAMPLES / 'changes.csv', workers=2),
-            read(EXAMPLES / 'tc3.csv').tradeoff(EXAMPLES / 'tc3-network.txt', seconds=1),
+            read(EXAMPLES / 'tc3.csv').tradeoff(EXAMPLES / 'tc3-network.txt', seconds=0.3),
             read(EXAMPLES / 'too-little-cooling.csv').flow()]
 
 

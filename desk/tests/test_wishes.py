@@ -75,6 +75,7 @@ def test_an_exchanger_through_a_cut_is_seen(pinch: Pinch) -> None:
     assert tight_of(case, network) == ('E1',)
 
 
+@pytest.mark.long
 def test_few_splits(pinch: Pinch) -> None:
     assert splits_of(wished(pinch, 'tc3', Wishes(most_splits=1)).network) <= 1
 
@@ -84,6 +85,7 @@ def test_no_splits_at_a_cost(pinch: Pinch) -> None:
     assert splits_of(wished(pinch, 'tc3', Wishes(most_splits=0), above=100).network) == 0
 
 
+@pytest.mark.long
 def test_what_cannot_be_met_is_refused_in_words(pinch: Pinch) -> None:
     # Two hot streams at the pinch and one cold one, which has to be split.
     case = 'contribution,,50,,,,\nhot,H,2000,1000,10,,\nhot,K,2000,1000,10,,\ncold,C,900,1900,20,,\n'
