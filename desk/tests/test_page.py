@@ -9,6 +9,7 @@ from hashlib import sha256
 from html import unescape
 from pathlib import Path
 from shutil import which
+from typing import Any
 
 import pytest
 from conftest import EXAMPLES, Done, example, pinchdesk
