@@ -33,7 +33,7 @@ STAGED, TINY_BOUND, BOUND, LAST, WAITING = 0.5, 0.02, 0.15, 0.05, 0.1
 # and what is gained then is gained by combining their networks.
 SHORT_JOBS, IDLE = Pace(steps=100, tries=20, chains=1, grows=False), 26
 # The same where a network may cost more than the least: then there are far more networks of each window.
-ABOVE_JOBS = Pace(steps=200)
+ABOVE_JOBS = Pace(steps=200, growths=100)
 # A network to begin with that has so many times as many exchangers as there are sources is left aside.
 LONG_START = 6.0
 
