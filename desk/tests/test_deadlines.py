@@ -102,6 +102,7 @@ def test_a_process_that_does_not_begin_is_told(pinch: Pinch, monkeypatch: pytest
         find_network(example('tc3.csv'), pinch=pinch, seconds=60)
 
 
+@pytest.mark.long
 def test_without_the_solver_the_package_is_named(tmp_path: Path) -> None:
     (tmp_path / 'scipy').mkdir()
     (tmp_path / 'scipy' / '__init__.py').write_text('raise ImportError("not here", name="scipy")\n')
@@ -128,6 +129,7 @@ def processes_with(word: str) -> list[int]:
     return found
 
 
+@pytest.mark.long
 def test_a_search_ends_with_whoever_asked_for_it(tmp_path: Path) -> None:
     mark = f'SEARCH_OF_A_TEST={tmp_path}'
     with subprocess.Popen([sys.executable, str(DESK / 'pinchdesk'), 'network', str(EXAMPLES / 'refinery.csv')],

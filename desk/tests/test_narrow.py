@@ -63,6 +63,7 @@ def seen(driver: Any, page: Path, wide: int) -> list[list[Any]]:
     return found
 
 
+@pytest.mark.long
 def test_on_a_narrow_screen_the_grid_scrolls_in_its_box_and_the_page_does_not(driver: Any, page: Path) -> None:
     pictures = {picture[0]: picture[1:] for picture in seen(driver, page, NARROW)}
     assert len(pictures) == 4
@@ -75,8 +76,8 @@ def test_on_a_narrow_screen_the_grid_scrolls_in_its_box_and_the_page_does_not(dr
     assert driver.execute_script('scrollTo(10000, 0); return scrollX') == 0
 
 
-@pytest.mark.parametrize(('screen', 'least'), [
-    (NARROW, 1.25 * READABLE), pytest.param(WIDE, READABLE, marks=pytest.mark.long)])
+@pytest.mark.long
+@pytest.mark.parametrize(('screen', 'least'), [(NARROW, 1.25 * READABLE), (WIDE, READABLE)])
 def test_letters_of_all_pictures_can_be_read(driver: Any, page: Path, screen: int, least: float) -> None:
     for name, _, _, wide, own, _ in seen(driver, page, screen):
         assert wide / own * smallest(name) >= least - 0.05, name

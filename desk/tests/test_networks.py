@@ -160,6 +160,7 @@ def test_a_network_is_told_in_the_units_of_its_case(table: str, scale: str, cost
     assert other['cost price times W'] == '107500' and other['said'].startswith('bound: at least ')
 
 
+@pytest.mark.long
 @pytest.mark.parametrize('table, scale, cost, unit', UNITS)
 def test_what_a_network_may_cost_is_asked_in_the_unit_that_is_told(table: str, scale: str, cost: str, unit: str,
                                                                    tmp_path: Path) -> None:

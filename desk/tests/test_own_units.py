@@ -9,7 +9,7 @@ from fractions import Fraction
 from pathlib import Path
 
 import pytest
-from conftest import pinchdesk, tried
+from conftest import few_of, pinchdesk, tried
 from hypothesis import given
 from hypothesis import strategies as some
 from plant_tables import SEIDER, TABLES
@@ -172,7 +172,7 @@ def test_changes_of_a_case_in_its_own_units_have_their_units() -> None:
 EVERY_WORD = ('targets', 'flow', "sweep '10 °F' '50 °F' '10 °F'", 'units', 'whatif', 'network --seconds 0.5')
 
 
-@pytest.mark.parametrize('words', EVERY_WORD)
+@pytest.mark.parametrize('words', few_of(EVERY_WORD, EVERY_WORD[:-1]))
 def test_every_word_that_shows_targets_has_the_published_ones(words: str, tmp_path: Path) -> None:
     (tmp_path / 'seider.csv').write_text(print_case(made(SEIDER, OWN).case), encoding='utf-8')
     word, *more = shlex.split(words)

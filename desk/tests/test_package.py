@@ -175,6 +175,7 @@ print(pandas.Series([1]).sum())
 """
 
 
+@pytest.mark.long
 def test_a_command_loads_pint_without_the_packages_whose_classes_it_knows() -> None:
     pytest.importorskip('pandas')
     done = subprocess.run([sys.executable, '-c', UNITS, 'case', '-d', '10', str(EXAMPLES / 'table.csv')],

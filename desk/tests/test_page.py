@@ -216,6 +216,7 @@ def test_pictures_are_files_and_have_statuses(words: tuple[str, ...], status: in
     assert len(made) == (status < 2) and all(file.stat().st_size > 1000 for file in made)
 
 
+@pytest.mark.long
 @WITH_BROWSER
 @pytest.mark.parametrize('width', [pytest.param(1280, marks=pytest.mark.long), 500])
 def test_a_browser_shows_the_page_whole(width: int, steam: str, tmp_path: Path) -> None:

@@ -161,6 +161,7 @@ def test_the_rest_of_a_rejected_network_has_no_numbers() -> None:
     assert (made.good, made.exact, made.hot_used_kw, made.excess_most_kw, made.case) == (False, None, None, None, None)
 
 
+@pytest.mark.long
 def test_pictures_show_themselves_and_a_page_is_a_text() -> None:
     levels = read(LEVELS)
     figures = [plant().curves(), plant().grid(NETWORK), plant().sweep(0, 4, 2, 1).figure(),

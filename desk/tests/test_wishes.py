@@ -59,6 +59,7 @@ def test_a_cut_case_has_all_heat_in_pieces_that_meet_in_their_window(pinch: Pinc
     assert len(cut.case.forbids) - len(case.forbids) >= apart
 
 
+@pytest.mark.long
 def test_no_exchanger_works_through_a_cut(pinch: Pinch) -> None:
     case = completed(read_case(example('tc3.csv')))
     found = wished(pinch, 'tc3', Wishes(may_cross=False))
