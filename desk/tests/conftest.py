@@ -3,6 +3,7 @@ from __future__ import annotations
 
 import io
 import os
+import pickle
 import subprocess
 import sys
 from collections.abc import Callable, Collection, Generator, Iterable, Iterator
@@ -156,16 +157,18 @@ def search_here(monkeypatch: pytest.MonkeyPatch) -> None:
 
 
 def done_here(jobs: Iterator[Job], count: int) -> Generator[JobOutcome, None, None]:
-    """Stands in for the processes of many cases."""
+    """Stands in for the processes of many cases: what goes there and what comes back is pickled as for them."""
     del count
-    yield from map(done_of, jobs)
+    for job in jobs:
+        outcome = done_of(pickle.loads(pickle.dumps(job)))
+        yield pickle.loads(pickle.dumps(outcome))
 
 
 @pytest.fixture(autouse=True)
 def many_here(request: pytest.FixtureRequest, monkeypatch: pytest.MonkeyPatch) -> None:
-    """Many cases are done in this process, unless all tests are asked for, or it is a test of processes: one that is
-    started loads all anew."""
-    if of_all(True, False) and not request.node.get_closest_marker('processes'):
+    """Many cases are done in this process, unless it is a test of processes: one that is started loads all anew."""
+    mark = request.node.get_closest_marker('processes')
+    if mark is None or of_all('--all' in mark.args, False):
         monkeypatch.setattr('pinchdesk.batch.order.by_processes', done_here)
 
 

@@ -35,7 +35,7 @@ Desk = Callable[..., Done]
 
 @pytest.fixture
 def desk(capfd: pytest.CaptureFixture[str]) -> Desk:
-    """Runs words in this process, by two processes of its own where all tests are asked for."""
+    """Runs words in this process, and in a test of processes by two of its own."""
     def run(*words: str) -> Done:
         status = main(['many', *words, *(['--processes', '2'] if '--help' not in words else [])])
         captured = capfd.readouterr()
@@ -68,6 +68,7 @@ def program(tmp_path: Path, monkeypatch: pytest.MonkeyPatch, lines: str) -> None
 
 # What comes of it.
 
+@pytest.mark.processes('--all')
 def test_each_case_has_its_row_in_order_and_a_refusal_is_one(desk: Desk, folder: Path) -> None:
     done = desk('targets', str(folder), '--form', 'csv')
     rows = rows_of(done)
@@ -112,6 +113,7 @@ def test_a_rejected_network_is_no_good_row(desk: Desk, tmp_path: Path) -> None:
     assert rows[1]['hot utility kW'] == '107.5' and rows[1]['excess over the hot target kW'] == '0'
 
 
+@pytest.mark.processes('--all')
 def test_a_word_of_several_rows_has_all_of_them(desk: Desk) -> None:
     done = desk('sweep', LIST, '0', '20', '10', '--form', 'csv')
     rows = rows_of(done)
@@ -300,6 +302,7 @@ def test_each_case_is_taken_in_each_scenario(desk: Desk, tmp_path: Path) -> None
 
 # From a notebook.
 
+@pytest.mark.processes('--all')
 def test_scenarios_are_cases_by_name() -> None:
     case = read_case(example('tc3.csv'))
     hotter = replace(case, streams=(replace(case.streams[0], supply=case.streams[0].supply + 10), *case.streams[1:]))
@@ -363,6 +366,7 @@ def test_processes_that_cannot_be_forked_are_started(folder: Path, tmp_path: Pat
     assert (ended.stdout, ended.stderr) == ('3 cases: 2 good, 1 refused\n', '')
 
 
+@pytest.mark.processes('--all')
 def test_what_was_done_is_kept_when_it_is_stopped(desk: Desk, folder: Path, monkeypatch: pytest.MonkeyPatch) -> None:
     def stop(text: str) -> None:
         if text.startswith('2 of 3'):
