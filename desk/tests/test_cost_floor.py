@@ -22,21 +22,19 @@ from pinchdesk.program.answers import Design
 LEVELS = costed_case(0, '', '', '', 'hot,A,2000,2000,0,100000,', 'hot,B,1500,1500,0,100000,',
                      'cold,C,1000,1000,0,100000,', 'cold,D,500,500,0,100000,',
                      *(f'#film,{name},{film},kW/m2K,,,' for name, film in zip('ABCD', ('0.1', '1', '1', '0.1'))))
-# Levels need no narrow slices.
-WIDEST = of_all(Fraction(40), None)
 
 
 def test_four_levels_are_as_by_hand() -> None:
     """Vertical they have 22 m²; crossed, 52/3, and no plan has less."""
     data = data_of(LEVELS)
     assert Fraction(22) in area_target(data, {}).area
-    floor = area_floor(data, {}, widest=WIDEST)
+    floor = area_floor(data, {})
     assert Fraction(52, 3) - Fraction(1, 10 ** 6) < floor.area <= Fraction(52, 3)
 
 
 def test_a_forbidden_match_raises_the_floor() -> None:
     """Without A and D the levels can only meet straight: 22 m²."""
-    floor = area_floor(data_of(LEVELS + 'forbid,A,D,,,,\n'), {}, widest=WIDEST)
+    floor = area_floor(data_of(LEVELS + 'forbid,A,D,,,,\n'), {})
     assert Fraction(22) - Fraction(1, 10 ** 6) < floor.area <= 22
 
 
@@ -85,7 +83,7 @@ def test_no_network_of_the_program_is_under_the_floor(pinch: Pinch, case: str) -
 def test_coefficients_of_pairs_count_in_the_floor() -> None:
     """One of 0.5 kW/m²K for all: the vertical plan, 100/(0.5 · 100) m² twice, is the least."""
     rows = [row for row in LEVELS.split('\n') if not row.startswith('#film')]
-    floor = area_floor(data_of('\n'.join([*rows, '#overall,,0.5,kW/m2K,,,', ''])), {}, widest=WIDEST)
+    floor = area_floor(data_of('\n'.join([*rows, '#overall,,0.5,kW/m2K,,,', ''])), {})
     assert 4 - Fraction(1, 10 ** 6) < floor.area <= 4
 
 

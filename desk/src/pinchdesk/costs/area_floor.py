@@ -88,10 +88,12 @@ def area_floor(data: CostData, uses: Mapping[str, int | Fraction], seconds: floa
             best = AreaFloor(plan.proved, width_of(hot + cold), len(hot) + len(cold))
         pairs = [(hot[above], cold[below]) for above, below in used]
         done = widest is not None and width_of(hot + cold) <= widest
+        narrower = narrower_than(width, members)
         # The next one has twice the slices, and takes some six times as long.
-        if done or monotonic() + 6 * (monotonic() - began) > end or 2 * (len(hot) + len(cold)) > MOST_SLICES:
+        if (done or narrower is None or monotonic() + 6 * (monotonic() - began) > end
+                or 2 * (len(hot) + len(cold)) > MOST_SLICES):
             return best
-        width /= 2
+        width = narrower
 
 
 def sliced(members: tuple[Carrier, ...], side: Side, width: Fraction) -> list[Slice]:
@@ -100,15 +102,32 @@ def sliced(members: tuple[Carrier, ...], side: Side, width: Fraction) -> list[Sl
     for carrier in members:
         if carrier.source.side is not side:
             continue
-        low, high = carrier.ends.low / 10, carrier.ends.high / 10
-        count = 1
-        while (high - low) / count > width:
-            count *= 2
-        step = (high - low) / count
+        low, count = carrier.ends.low / 10, count_of(carrier, width)
+        step = span_of(carrier) / count
         for at in range(count):
             slices.append(Slice(carrier, ceil((low + (at + 1) * step) * STEPS), floor((low + at * step) * STEPS),
                                 carrier.heat / 1000 / count))
     return sorted(slices, key=lambda part: (part.high, part.low))
+
+
+def span_of(carrier: Carrier) -> Fraction:
+    return carrier.ends.high / 10 - carrier.ends.low / 10
+
+
+def count_of(carrier: Carrier, width: Fraction) -> int:
+    """How many slices a carrier has, of which none is wider than this."""
+    count = 1
+    while span_of(carrier) / count > width:
+        count *= 2
+    return count
+
+
+def narrower_than(width: Fraction, members: tuple[Carrier, ...]) -> Fraction | None:
+    """The next half of a width at which a slice is halved; None where all carriers are levels, and none ever is."""
+    widest = max(span_of(carrier) / count_of(carrier, width) for carrier in members)
+    while 0 < widest <= width:
+        width /= 2
+    return width if widest else None
 
 
 def width_of(slices: list[Slice]) -> Fraction:
