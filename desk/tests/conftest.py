@@ -8,9 +8,9 @@ import subprocess
 import sys
 from collections.abc import Callable, Collection, Generator, Iterable, Iterator
 from contextlib import chdir, redirect_stderr, redirect_stdout
-from dataclasses import dataclass
+from dataclasses import dataclass, replace
 from pathlib import Path
-from typing import TYPE_CHECKING, Any, TypeVar
+from typing import TYPE_CHECKING, Any, ClassVar, TypeVar
 
 import pytest
 from hypothesis import HealthCheck, settings
@@ -20,7 +20,7 @@ from pinchdesk.batch.job import Job, JobOutcome
 from pinchdesk.batch.job import done as done_of
 from pinchdesk.cli.lean_units import load_units_alone
 from pinchdesk.cli.main import main
-from pinchdesk.search.tasks import Task
+from pinchdesk.search.tasks import Task, TradeoffTask
 
 if TYPE_CHECKING:
     from live_browser import LivePage, OpenDesk, Opens
@@ -38,7 +38,7 @@ FEW = ('four-stream', 'own-contributions', 'preheater', 'two-reactors', 'two-ste
 # The same examples each time, with no memory of earlier runs; the program is slow to start on a busy machine.
 settings.register_profile('desk', deadline=None, max_examples=12, derandomize=True, database=None,
                           suppress_health_check=[HealthCheck.too_slow])
-settings.register_profile('all', settings.get_profile('desk'), max_examples=100)
+settings.register_profile('all', settings.get_profile('desk'), max_examples=50)
 # As in the command: pint takes seconds otherwise, in each process of the tests.
 load_units_alone()
 
@@ -79,13 +79,13 @@ def pytest_configure(config: pytest.Config) -> None:
 
 @FIRST_HOOK
 def pytest_collection_modifyitems(config: pytest.Config, items: list[pytest.Item]) -> None:
-    """A file is for one process of pytest-xdist, so that no other one loads or makes what its tests share; with --all
-    that would wait for the longest file. A long test is for --all, and for whoever names it."""
-    if config.getoption('--all') or any('::' in word for word in config.args):
-        return
+    """A file is for one process of pytest-xdist, so that no other one loads or makes what its tests share. A long test
+    is for --all, and for whoever names it."""
     for item in items:
         if not item.get_closest_marker('xdist_group'):
             item.add_marker(pytest.mark.xdist_group(item.location[0]))
+    if config.getoption('--all') or any('::' in word for word in config.args):
+        return
     long = [item for item in items if item.get_closest_marker('long')]
     config.hook.pytest_deselected(items=long)
     items[:] = [item for item in items if item not in long]
@@ -131,16 +131,27 @@ def example(name: str) -> bytes:
     return (EXAMPLES / name).read_bytes()
 
 
+def timeless(task: Task) -> bytes:
+    """What a task is, whenever it is begun."""
+    if isinstance(task, TradeoffTask):
+        return pickle.dumps(replace(task, search=replace(task.search, begun=0.0)))
+    return pickle.dumps(replace(task, begun=0.0))
+
+
 class SearchHere:
-    """Stands in for the process of a search: the task is done in this one, whatever time it takes."""
+    """Stands in for the process of a search: the task is done in this one, whatever time it takes, and once."""
 
     is_gone = False
+    done: ClassVar[dict[bytes, list[object]]] = {}
 
     def told(self, task: Task, until: float) -> Iterator[object]:
         del until
-        messages: list[object] = []
-        task.run(messages.append)
-        yield from messages
+        what = timeless(task)
+        if what not in self.done:
+            messages: list[object] = []
+            task.run(messages.append)
+            self.done[what] = messages
+        yield from self.done[what]
 
     def __enter__(self) -> SearchHere:
         return self

@@ -14,7 +14,7 @@ from pinchdesk import Accepted, Cut, Pinch, completed, find_network, read_case, 
 from pinchdesk.formats.case import Basis
 from pinchdesk.formats.shown import Shown
 from pinchdesk.search.accepted import NotAccepted
-from pinchdesk.search.budget import rounded_up
+from pinchdesk.search.budget import SearchWay, rounded_up
 from pinchdesk.search.find import NoNetwork
 from pinchdesk.search.solver.linear import solve
 from pinchdesk.search.staged import windows
@@ -23,13 +23,16 @@ from pinchdesk.search.staged.plan import Match, StagedPlan
 from pinchdesk.search.staged.window_bound import window_bound_program
 from pinchdesk.search.staged.write import written
 
+# Each process of a search loads the solver for itself.
+ALONE = SearchWay(workers=1)
 FEW = {'four-stream': 6, 'tc3': 7, 'two-reactors': 7, 'own-contributions': 7, 'column': 7, 'preheater': 3,
        'two-steam-levels': 10, 'two-reactors-steam': 10, 'three-levels': 11}
 
 
+@pytest.mark.usefixtures('searched_here')
 @pytest.mark.parametrize('name', few_of(FEW, ('four-stream', 'preheater')))
 def test_as_few_as_published_at_the_least_cost(pinch: Pinch, name: str) -> None:
-    found = find_network(example(f'{name}.csv'), pinch=pinch, seconds=300)
+    found = find_network(example(f'{name}.csv'), pinch=pinch, seconds=300, way=ALONE)
     assert found.bound == found.proved <= found.exchangers <= FEW[name]
     verdict = pinch.audit(example(f'{name}.csv'), found.text)
     assert isinstance(verdict, Accepted) and verdict.cost == verdict.floor == found.verdict.cost
@@ -78,6 +81,7 @@ def test_what_works_through_a_cut_may_pass_the_target_of_its_stream(pinch: Pinch
 
 
 @pytest.mark.long
+@pytest.mark.usefixtures('searched_here')
 def test_more_cost_buys_fewer_exchangers(pinch: Pinch) -> None:
     case = example('tc3.csv')
     found = find_network(case, most_cost=115000, seconds=300, pinch=pinch)
@@ -136,6 +140,7 @@ UNITS = [pytest.param(*row, id=unit, marks=pytest.mark.long)
          for row, unit in zip(PRICED, ('per MWh', 'no price', 'per kW and year'))]
 
 
+@pytest.mark.usefixtures('searched_here')
 @pytest.mark.parametrize('table, scale, cost, unit', UNITS)
 def test_a_network_is_told_in_the_units_of_its_case(table: str, scale: str, cost: str, unit: str,
                                                     tmp_path: Path) -> None:
@@ -161,6 +166,7 @@ def test_a_network_is_told_in_the_units_of_its_case(table: str, scale: str, cost
 
 
 @pytest.mark.long
+@pytest.mark.usefixtures('searched_here')
 @pytest.mark.parametrize('table, scale, cost, unit', UNITS)
 def test_what_a_network_may_cost_is_asked_in_the_unit_that_is_told(table: str, scale: str, cost: str, unit: str,
                                                                    tmp_path: Path) -> None:

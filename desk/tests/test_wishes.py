@@ -35,8 +35,9 @@ def cuts_of(pinch: Pinch, case: Case) -> list[int]:
     return [place for place, _ in cuts_between(case, uses_of(pinch, case))]
 
 
-def wished(pinch: Pinch, name: str, wishes: Wishes, above: int = 0, start: bytes | None = None) -> FewExchangers:
-    found = find_network(example(f'{name}.csv'), above=above, start=start, pinch=pinch, way=STEPS, wishes=wishes)
+def wished(pinch: Pinch, name: str, wishes: Wishes, above: int = 0, start: bytes | None = None,
+           way: SearchWay = STEPS) -> FewExchangers:
+    found = find_network(example(f'{name}.csv'), above=above, start=start, pinch=pinch, way=way, wishes=wishes)
     verdict = pinch.audit(example(f'{name}.csv'), found.text)
     assert isinstance(verdict, Accepted) and verdict.cost == found.verdict.cost
     assert verdict.cost <= verdict.floor * Fraction(100 + above, 100)
@@ -60,6 +61,7 @@ def test_a_cut_case_has_all_heat_in_pieces_that_meet_in_their_window(pinch: Pinc
 
 
 @pytest.mark.long
+@pytest.mark.usefixtures('searched_here')
 def test_no_exchanger_works_through_a_cut(pinch: Pinch) -> None:
     case = completed(read_case(example('tc3.csv')))
     found = wished(pinch, 'tc3', Wishes(may_cross=False))
@@ -77,16 +79,19 @@ def test_an_exchanger_through_a_cut_is_seen(pinch: Pinch) -> None:
 
 
 @pytest.mark.long
+@pytest.mark.usefixtures('searched_here')
 def test_few_splits(pinch: Pinch) -> None:
     assert splits_of(wished(pinch, 'tc3', Wishes(most_splits=1)).network) <= 1
 
 
 @pytest.mark.long
+@pytest.mark.usefixtures('searched_here')
 def test_no_splits_at_a_cost(pinch: Pinch) -> None:
     assert splits_of(wished(pinch, 'tc3', Wishes(most_splits=0), above=100).network) == 0
 
 
 @pytest.mark.long
+@pytest.mark.usefixtures('searched_here')
 def test_what_cannot_be_met_is_refused_in_words(pinch: Pinch) -> None:
     # Two hot streams at the pinch and one cold one, which has to be split.
     case = 'contribution,,50,,,,\nhot,H,2000,1000,10,,\nhot,K,2000,1000,10,,\ncold,C,900,1900,20,,\n'
@@ -96,14 +101,17 @@ def test_what_cannot_be_met_is_refused_in_words(pinch: Pinch) -> None:
 
 
 @pytest.mark.long
+@pytest.mark.usefixtures('searched_here')
 def test_what_stays_has_its_streams_and_its_duty(pinch: Pinch) -> None:
     start = example('tc3-network.txt')
     kept = [exchanger for exchanger in read_network(start).exchangers if exchanger.name in ('E1', 'E3')]
-    found = wished(pinch, 'tc3', Wishes(keep=('E1', 'E3')), above=20, start=start)
+    few = replace(STEPS, steps=8)
+    found = wished(pinch, 'tc3', Wishes(keep=('E1', 'E3')), above=20, start=start, way=few)
     assert all(exchanger in found.network.exchangers for exchanger in kept)
     assert found.exchangers <= len(read_network(start).exchangers)
 
 
+@pytest.mark.usefixtures('searched_here')
 def test_a_network_to_begin_with_that_cannot_be_given_is_told(pinch: Pinch) -> None:
     case = 'contribution,,50,,,,\nhot,H,2000,1000,10,,\nhot,K,2000,1000,10,,\ncold,C,900,1700,20,,\n'
     few = SearchWay(steps=2, workers=1)
@@ -173,14 +181,16 @@ def test_the_last_steps_take_out_what_costs_nothing(pinch: Pinch) -> None:
 
 
 @pytest.mark.long
+@pytest.mark.usefixtures('searched_here')
 def test_a_little_more_cost_saves_an_exchanger(pinch: Pinch) -> None:
     assert wished(pinch, 'tc3', Wishes(), above=4).exchangers == 6
 
 
 @pytest.mark.long
+@pytest.mark.usefixtures('searched_here')
 def test_a_large_case_is_the_same_by_one_worker_or_by_three(pinch: Pinch) -> None:
     case = example('bn15.csv')
-    first, again = (find_network(case, pinch=pinch, way=SearchWay(steps=40, workers=count)) for count in (1, 3))
+    first, again = (find_network(case, pinch=pinch, way=SearchWay(steps=12, workers=count)) for count in (1, 3))
     assert first.text == again.text
 
 
