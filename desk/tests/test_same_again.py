@@ -4,19 +4,23 @@ from __future__ import annotations
 
 import os
 import pickle
+import signal
 import subprocess
 import sys
-from collections.abc import Callable, Generator
+import time
+from collections.abc import Callable
+from contextlib import suppress
 from fractions import Fraction
 from importlib.metadata import version
 from pathlib import Path
 from random import Random
 
 import pytest
-from conftest import EXAMPLES, command, example, few_of
+from conftest import DESK, EXAMPLES, example, few_of
 
-from pinchdesk import Cut, Network, Pinch, completed, read_case
+from pinchdesk import Cut, Network, Pinch, completed, find_network, read_case
 from pinchdesk.search.accepted import Judge, Judged
+from pinchdesk.search.budget import SearchWay
 from pinchdesk.search.ticking.plant_search import JobRow, Pace, PlantSearch
 
 PLANT = EXAMPLES.parent / 'checks' / 'plant'
@@ -67,29 +71,50 @@ def test_whichever_worker_is_done_first_the_same_is_found(pinch: Pinch, name: st
         assert again.run(4, first) == networks and again.search.taken == JOBS
 
 
-@pytest.fixture
-def load() -> Generator[None, None, None]:
-    """Processes that take what they get of all processors."""
-    busy = [subprocess.Popen([sys.executable, '-c', 'while True: pass']) for _ in range(os.cpu_count() or 1)]
-    yield
-    for process in busy:
-        process.kill()
-        process.wait()
+def processes_of(root: int) -> list[int]:
+    """A process, those that it has started, and those that these have, as Linux tells."""
+    children: dict[int, list[int]] = {}
+    for stat in Path('/proc').glob('[0-9]*/stat'):
+        # One may end while it is looked at.
+        with suppress(OSError):
+            parent = stat.read_text().rpartition(')')[2].split()[1]
+            children.setdefault(int(parent), []).append(int(stat.parent.name))
+    found = [root]
+    for process in found:
+        found += children.get(process, [])
+    return found
+
+
+def stall(process: int, seconds: float) -> None:
+    """Takes the processor from a process for a while."""
+    with suppress(ProcessLookupError):
+        os.kill(process, signal.SIGSTOP)
+        try:
+            time.sleep(seconds)
+        finally:
+            os.kill(process, signal.SIGCONT)
+
+
+def beside_a_load(case: Path, steps: int, out: Path) -> bytes:
+    """What the word writes, by four processes. A load is made here of processes that are stalled by chance, one or
+    another: so it goes beside what takes all processors, and this takes none."""
+    words = ['network', str(case), '--steps', str(steps), '--seed', '7', '--workers', '4', '-o', str(out)]
+    chance = Random(steps)
+    with subprocess.Popen([sys.executable, str(DESK / 'pinchdesk'), *words]) as process:
+        while process.poll() is None:
+            time.sleep(chance.uniform(0.02, 0.1))
+            stall(chance.choice(processes_of(process.pid)), chance.uniform(0.05, 0.4))
+    assert process.returncode == 0
+    return out.read_bytes()
 
 
 @pytest.mark.long
-@pytest.mark.processes
-@pytest.mark.parametrize('case, steps', [(EXAMPLES / 'four-stream.csv', 40), (EXAMPLES / '10sp1.csv', 60),
-                                         (PLANT / 'g20-1.csv', 30)], ids=['four-stream', '10sp1', 'g20-1'])
-def test_the_word_writes_the_same_bytes_beside_a_load(case: Path, steps: int, load: None, tmp_path: Path) -> None:
-    del load
-    texts = []
-    for workers in (1, 4):
-        out = tmp_path / f'{workers}.txt'
-        told = command('network', str(case), '--steps', str(steps), '--seed', '7', '--workers', str(workers), '-o',
-                       str(out))
-        assert told.status == 0
-        texts.append(out.read_bytes())
-    assert texts[0] == texts[1]
+@pytest.mark.usefixtures('searched_here')
+@pytest.mark.parametrize('case, steps', [(EXAMPLES / 'four-stream.csv', 20), (EXAMPLES / '10sp1.csv', 16),
+                                         (PLANT / 'g20-1.csv', 24)], ids=['four-stream', '10sp1', 'g20-1'])
+def test_the_word_writes_the_same_bytes_beside_a_load(case: Path, steps: int, pinch: Pinch, tmp_path: Path) -> None:
+    """As the call finds alone, in this process."""
+    alone = find_network(case.read_bytes(), pinch=pinch, way=SearchWay(seed=7, steps=steps, workers=1)).text
+    assert beside_a_load(case, steps, tmp_path / 'found.txt') == alone.encode()
     libraries = f'numpy {version("numpy")} and scipy {version("scipy")}'
-    assert f'\n# the same again with the same seed and steps by {libraries}\n'.encode() in texts[0]
+    assert f'\n# the same again with the same seed and steps by {libraries}\n' in alone
