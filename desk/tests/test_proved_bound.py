@@ -76,7 +76,7 @@ def ends_of(program: Program, point: tuple[Fraction, ...]) -> set[Fraction]:
     return ends
 
 
-@tried(6, 100)
+@tried(6, 50)
 @given(covers())
 def test_no_proof_says_more_than_the_least(program: Program) -> None:
     least = least_by_hand(program)
@@ -85,7 +85,7 @@ def test_no_proof_says_more_than_the_least(program: Program) -> None:
     assert proved == wanted if least is None else Fraction(proved) == max(Fraction(0), least)
 
 
-@tried(6, 100)
+@tried(6, 50)
 @given(covers(), some.lists(some.floats(-1e12, 1e12, allow_nan=False), min_size=4, max_size=4))
 def test_prices_prove_no_more_than_is_true_whatever_they_are(program: Program, prices: list[float]) -> None:
     least, numbers = least_by_hand(program), WholeNumbers(program)
