@@ -39,7 +39,7 @@ def undrawn(figure: Figure) -> set[int]:
 def texts_of(figure: Figure) -> list[tuple[str, Bbox, Any]]:
     """All texts that are seen, with their boxes in dots, a little less than they are."""
     with styled():
-        figure.canvas.draw()
+        figure.draw_without_rendering()
         renderer = figure.canvas.get_renderer()
         hidden = undrawn(figure)
         found = [drawn for drawn in figure.findobj(Text)
@@ -79,6 +79,7 @@ def on_lines(figure: Figure, lines: Iterable[Any]) -> list[str]:
             if drawn in axes.texts and any(meets(box, *piece) for piece in pieces)]
 
 
+@lru_cache(maxsize=64)
 def svg_texts(figure: Figure) -> list[str]:
     """The texts of the picture as a file."""
     picture = rendered(figure, 'svg').decode()

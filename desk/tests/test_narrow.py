@@ -3,6 +3,7 @@ read, and the page itself does not."""
 from __future__ import annotations
 
 from collections.abc import Iterator
+from functools import cache
 from pathlib import Path
 from shutil import which
 from typing import Any
@@ -83,6 +84,7 @@ def test_letters_of_all_pictures_can_be_read(driver: Any, page: Path, screen: in
         assert wide / own * smallest(name) >= least - 0.05, name
 
 
+@cache
 def smallest(name: str) -> float:
     """The size of the smallest letters of a picture of the page, in points, where it is not scaled."""
     from matplotlib.text import Text
