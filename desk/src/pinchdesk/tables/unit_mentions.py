@@ -3,6 +3,7 @@ none stands with the numbers."""
 from __future__ import annotations
 
 import re
+from functools import lru_cache
 
 from .units import Kind, UnknownUnit, is_multiple, unit_of
 
@@ -35,9 +36,10 @@ SAID = {Kind.TEMPERATURE: re.compile(rf'{ALONE}(?:{FAHRENHEIT}|{KELVIN})|{SYSTEM
         Kind.HEAT: re.compile(rf'{OTHER_HEAT}|{PARTS}')}
 
 
+@lru_cache(maxsize=64)
 def names_other_unit(text: str, kind: Kind) -> bool:
     """Whether a text names a unit of a kind of numbers, or is one, and another one than is taken where there is
-    none."""
+    none. A table has the same note in many rows, and is read more than once."""
     if SAID[kind].search(text):
         return True
     bare_text = text.strip().strip('()[]').strip()
