@@ -58,12 +58,13 @@ def browser(*words: str, size: str = '1500,960') -> Iterator[Chrome]:
 
 @dataclass(frozen=True)
 class OpenDesk:
-    """A desk that serves two files; how it is ended, at once."""
+    """A desk that serves two files; how it is ended, at once; the number of its process where it has one of its own."""
 
     address: str
     case: Path
     network: Path
     kill: Callable[[], None]
+    process: int | None = None
 
 
 def words_of(case: Path, network: Path | None, more: tuple[str, ...]) -> tuple[list[str], Path]:
@@ -98,7 +99,7 @@ def desk_apart(case: Path, network: Path | None = None, *more: str) -> OpenDesk:
     for line in process.stdout:
         found = re.search(r'http://127\.0\.0\.1:\d+/\S+/', line)
         if found:
-            return OpenDesk(found.group(), case, network, kill)
+            return OpenDesk(found.group(), case, network, kill, process.pid)
     raise AssertionError(f'no address was printed; status {process.wait()}')
 
 

@@ -406,6 +406,7 @@ def test_each_number_of_an_exchanger_has_its_unit(opens: Opens, tmp_path: Path) 
     page.choose('E1')
     page.until(lambda: 'm²' in page.text('#chosen dd'))
     page.one('#table summary').click()
+    page.until(lambda: page.all('#table caption'))
     assert page.text('#table caption') == 'duties in kW, temperatures in °C, differences in K, areas in m²'
 
 

@@ -9,6 +9,7 @@ import enum
 from collections.abc import Mapping
 from dataclasses import dataclass
 from fractions import Fraction
+from functools import cached_property
 
 from ..formats.case import Case, Side, Source, Stream, shifted
 from ..formats.network import End, Exchanger, Mix, Network, Pass, Split
@@ -142,12 +143,13 @@ class Followed:
     passages: tuple[Passage, ...]
     ends: Mapping[str, tuple[StreamEnd, ...]]
 
+    @cached_property
+    def by_name(self) -> Mapping[str, Passage]:
+        return {passage.exchanger.name: passage for passage in self.passages}
+
     def passage(self, exchanger: str) -> Passage:
         """The exchanger of this name; `KeyError` where there is none."""
-        for passage in self.passages:
-            if passage.exchanger.name == exchanger:
-                return passage
-        raise KeyError(exchanger)
+        return self.by_name[exchanger]
 
 
 def difference(upper: Fraction | None, lower: Fraction | None) -> Fraction | None:

@@ -10,7 +10,7 @@ from itertools import pairwise
 from ..analysis.follow import Followed, PinchPoint, PinchSide, follow
 from ..analysis.pinch_places import temperatures_at
 from ..figures.grid.columns import Columns, Tracks, columns_of
-from ..figures.grid.courses import Course, Node, course_of
+from ..figures.grid.courses import Course, Key, Node, course_of
 from ..figures.grid.lanes import count_of, drawn_branches, lanes_of, node_at, share_of, stream_columns
 from ..formats.case import Side, Stream, Utility
 from ..formats.network import End, Network
@@ -182,31 +182,39 @@ def label_of(lines: Lines, name: str, start: Node | None, ended: bool) -> tuple[
 def joints_of(lines: Lines) -> tuple[JointLine, ...]:
     """The upright lines of splits and mixes; both of one parting have its name."""
     made: list[JointLine] = []
-    named = joint_names(lines.plan)
+    named, heights = joint_names(lines.plan), heights_of(lines)
     names = {stream.name: [joint for joint, (name, _) in named.items() if name == stream.name]
              for stream in lines.plan.case.streams}
     partings = {joint: parting for joint, (_, parting) in named.items()}
-    for node in lines.course.nodes.values():
-        if node.exchanger:
-            continue
+    nodes = [node for node in lines.course.nodes.values() if not node.exchanger]
+    same: dict[tuple[str, str], list[Node]] = {}
+    for node in nodes:
+        same.setdefault((node.key[0], node.stream.name), []).append(node)
+    for node in nodes:
         stream = node.stream.name
-        lanes = lines.lanes[stream]
-        heights = [lines.line(stream, name) for name in drawn_branches(lines.course, lanes)
-                   if node in node_at(lines.course, name)]
-        joint = joint_at(lines, node, names[stream], partings)
+        joint = joint_at(node, same[node.key[0], stream], names[stream])
         shares = tuple(decimal(lane.share * 100, 2) for lane in partings[joint].lanes) if joint else ()
-        if heights:
-            row = whole_name(lines.plan.case, stream)
-            made.append(JointLine(joint, row, lines.column(node), min(heights), max(heights), shares))
+        if node.key in heights:
+            row, beside = whole_name(lines.plan.case, stream), heights[node.key]
+            made.append(JointLine(joint, row, lines.column(node), min(beside), max(beside), shares))
     return tuple(made)
 
 
-def joint_at(lines: Lines, node: Node, joints: Sequence[str], partings: Mapping[str, object]) -> str:
+def heights_of(lines: Lines) -> dict[Key, list[int]]:
+    """The lines of the branches that begin or end at each node."""
+    found: dict[Key, list[int]] = {}
+    for stream, lanes in lines.lanes.items():
+        for name in drawn_branches(lines.course, lanes):
+            for node in node_at(lines.course, name):
+                if node is not None:
+                    found.setdefault(node.key, []).append(lines.line(stream, name))
+    return found
+
+
+def joint_at(node: Node, same: Sequence[Node], joints: Sequence[str]) -> str:
     """The name of the parting that begins or ends at a node: splits in their order have the partings in theirs."""
-    same = [other for other in lines.course.nodes.values()
-            if other.key[0] == node.key[0] and other.stream.name == node.stream.name]
-    at = same.index(node)
-    return joints[at] if at < len(joints) and len(same) == len(joints) and partings else ''
+    at = next(at for at, other in enumerate(same) if other is node)
+    return joints[at] if len(same) == len(joints) else ''
 
 
 def bar_of(lines: Lines, name: str) -> ExchangerBar:

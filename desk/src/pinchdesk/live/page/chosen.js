@@ -1,6 +1,6 @@
 // The panel of what is chosen in the diagram: the partners of an open piece, an exchanger, a split.
 
-import { asks, fill, keyed, make } from './dom.js';
+import { asks, fill, keyed, make, whenDrawn } from './dom.js';
 import { crossingText } from './geometry.js';
 import { partnersOf } from './grid_marks.js';
 import { changed } from './state.js';
@@ -33,7 +33,7 @@ export class ChosenPart {
     if (!changed(state, before, 'view', 'chosen', 'offers', 'instead', 'moves')) return;
     const scrolled = before && before.chosen === state.chosen ? this.scrolled : 0;
     fill(this.panel, ...this.content(state));
-    if (scrolled !== this.scrolled || scrolled) this.panel.scrollTop = scrolled;
+    if (scrolled !== this.scrolled || scrolled) whenDrawn(() => { this.panel.scrollTop = scrolled; });
   };
 
   /**

@@ -96,6 +96,37 @@ export async function asks(fields, question) {
   return done;
 }
 
+/** @type {(() => unknown)[] | null} what waits until all is drawn; null while nothing is being drawn */
+let waiting = null;
+
+/**
+ * Draws, and then does what asks the layout: between two changes it would have to be made anew each time.
+ * @param {() => void} draws
+ */
+export function drawTogether(draws) {
+  if (waiting) {
+    draws();
+    return;
+  }
+  /** @type {(() => unknown)[]} */
+  const works = waiting = [];
+  try {
+    draws();
+  } finally {
+    waiting = null;
+    for (const work of works) work();
+  }
+}
+
+/**
+ * Does something that asks the layout, as the focus and scrolling do, once all that is being drawn is there.
+ * @param {() => unknown} work
+ */
+export function whenDrawn(work) {
+  if (waiting) waiting.push(work);
+  else work();
+}
+
 /**
  * Puts new children into a part. What had the focus has it again where it still is (by its `data-key`), with what was
  * being typed and where; else the first control of the part has it, or the diagram, so that no key goes nowhere.
@@ -111,11 +142,12 @@ export function fill(parent, ...children) {
   parent.replaceChildren(...children.flatMap(child => child ? [child] : []));
   if (!inside) return;
   const again = key === null ? null : keyed(parent, key);
-  const next = again ?? parent.querySelector(CONTROL) ?? document.querySelector('#grid [tabindex="0"]');
-  if (next instanceof HTMLElement || next instanceof SVGElement) next.focus({ preventScroll: true });
-  if (!again || !isField(again)) return;
-  if (typed !== null) again.value = typed;
-  if (range && range[0] !== null) again.setSelectionRange(range[0], range[1]);
+  if (again && isField(again) && typed !== null) again.value = typed;
+  whenDrawn(() => {
+    const next = again ?? parent.querySelector(CONTROL) ?? document.querySelector('#grid [tabindex="0"]');
+    if (next instanceof HTMLElement || next instanceof SVGElement) next.focus({ preventScroll: true });
+    if (again && isField(again) && range && range[0] !== null) again.setSelectionRange(range[0], range[1]);
+  });
 }
 
 /**
@@ -145,6 +177,10 @@ export function lettersChanged() {
 }
 
 let letters = '';
+/** @type {Map<string, number>} how wide texts are that were measured */
+const widths = new Map();
+/** So many of them are kept. */
+const MOST_WIDTHS = 5000;
 const ruler = document.createElement('canvas').getContext('2d');
 
 /**
@@ -155,7 +191,12 @@ const ruler = document.createElement('canvas').getContext('2d');
  */
 export function textWidth(text, size, bold = false) {
   if (!ruler) return text.length * size * 0.62;
+  const key = `${size} ${bold} ${text}`, known = widths.get(key);
+  if (known !== undefined) return known;
   letters ||= getComputedStyle(document.body).fontFamily;
   ruler.font = `${bold ? 'bold ' : ''}${size}px ${letters}`;
-  return ruler.measureText(text).width;
+  const { width } = ruler.measureText(text);
+  if (widths.size >= MOST_WIDTHS) widths.clear();
+  widths.set(key, width);
+  return width;
 }

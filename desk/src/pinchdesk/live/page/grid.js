@@ -1,13 +1,14 @@
-// The grid diagram: it is drawn anew with each view, and marked as the user points and chooses.
+// The grid diagram: with each view what has changed of it is drawn, and it is marked as the user points and chooses.
 
-import { draw, fill, keyed, lettersChanged, make } from './dom.js';
+import { draw, fill, keyed, lettersChanged, make, whenDrawn } from './dom.js';
 import { Geometry } from './geometry.js';
 import { exchangerShape, jointShape, lineShape, nameShape, pieceShape, pinchShape, rowShape } from './grid_shapes.js';
 import { GridKeys } from './grid_keys.js';
 import { meantAt } from './grid_hits.js';
 import { chosenAt, markOne, partnersOf } from './grid_marks.js';
 import { Drag } from './drag.js';
-import { viewChanged } from './state.js';
+import { named, renewed, shape } from './renewing.js';
+import { changed, viewChanged } from './state.js';
 
 /** @typedef {import('./actions.js').Actions} Actions */
 /** @typedef {import('./contract.js').GridPicture} GridPicture */
@@ -31,6 +32,8 @@ export class GridPart {
     this.enter = enter;
     /** @type {SVGSVGElement | null} */
     this.picture = null;
+    /** @type {HTMLElement | null} what the picture scrolls in, beside the names */
+    this.places = null;
     /** @type {Geometry | null} */
     this.at = null;
     this.keys = new GridKeys(this);
@@ -47,7 +50,7 @@ export class GridPart {
   /** @type {import('./state.js').Renderer} */
   render = (state, before) => {
     if (viewChanged(state, before, 'grid', 'read_only')) this.redraw(state);
-    this.mark(state);
+    if (changed(state, before, 'view', 'chosen', 'refusal', 'offers', 'moves', 'way', 'partners')) this.mark(state);
   };
 
   resized() {
@@ -69,7 +72,7 @@ export class GridPart {
     const { view } = state;
     this.drag.stop();
     if (!view.grid) {
-      this.picture = null;
+      this.picture = this.places = null;
       fill(this.panel, make('p', { class: 'none' }, view.read_only || 'There is no network to be shown.'),
         view.hold && make('p', { class: 'none' }, make('button', {
           type: 'button', 'data-key': 'hold', click: () => this.actions.do({ kind: 'hold' }),
@@ -83,38 +86,28 @@ export class GridPart {
     this.at = new Geometry(view.grid, this.room - PADDING, this.lines);
     this.lines = this.at.lines;
     document.documentElement.style.setProperty('--diagram', `${Math.ceil(this.at.height)}px`);
-    this.picture = this.drawn(view.grid, this.at);
-    /** @type {HTMLElement} */
-    const wide = make('div', { class: 'wide', scroll: () => this.remember(wide) },
-      namesPicture(view.grid, this.at), this.picture);
-    fill(this.panel, view.read_only && make('p', { class: 'note' }, view.read_only), wide);
-    // Nothing is asked of the layout here unless it must be: that would cost more than all the drawing.
-    if (this.scrolled.left || this.scrolled.top) wide.scrollTo(this.scrolled);
-    this.keys.renew(this.picture, focused);
+    this.draw(view.grid, this.at);
+    const { picture } = this;
+    if (picture) whenDrawn(() => this.keys.renew(picture, focused));
   }
 
   /**
    * @param {GridPicture} grid
    * @param {Geometry} at
    */
-  drawn(grid, at) {
-    const sides = new Map(grid.rows.map(row => [row.name, row.side]));
-    /** @param {string} stream */
-    const side = stream => sides.get(stream) ?? 'hot';
-    const width = Math.ceil(at.width), height = Math.ceil(at.height);
-    const picture = draw('svg', {
-      class: 'grid', role: 'group', 'aria-label': WORDS, width, height, viewBox: `0 0 ${width} ${height}`,
-      'font-size': at.size,
-    },
-    ...grid.pinches.map((pinch, place) => pinchShape(pinch, at.levels[place], at)),
-    ...grid.rows.map(row => rowShape(row, at)),
-    ...grid.lines.map(line => lineShape(line, side(line.stream), at)),
-    ...grid.joints.map(joint => jointShape(joint, side(joint.stream), at)),
-    ...grid.exchangers.map(exchanger => exchangerShape(exchanger, grid, at)),
-    ...grid.pieces.map(piece => pieceShape(piece, at)),
-    draw('g', { class: 'over' }));
-    this.listen(picture);
-    return picture;
+  draw(grid, at) {
+    const { places } = this, [names, picture] = places ? [...places.children] : [];
+    const shownNames = renewed(namesShape(grid, at), asSvg(names));
+    const shown = renewed(gridShape(grid, at), asSvg(picture));
+    if (places && shown === picture) return;
+    this.picture = /** @type {SVGSVGElement} */ (shown);
+    this.listen(this.picture);
+    /** @type {HTMLElement} */
+    const wide = make('div', { class: 'wide', scroll: () => this.remember(wide) }, shownNames, shown);
+    this.places = wide;
+    fill(this.panel, wide);
+    // Nothing is asked of the layout here unless it must be: that would cost more than all the drawing.
+    if (this.scrolled.left || this.scrolled.top) whenDrawn(() => wide.scrollTo(this.scrolled));
   }
 
   /** @param {SVGSVGElement} picture */
@@ -148,7 +141,7 @@ export class GridPart {
 
   /** @param {State} state */
   mark(state) {
-    const { picture } = this, places = this.panel.querySelector('.wide');
+    const { picture, places } = this;
     if (!picture || !places) return;
     const { chosen, refusal, view, offers, moves, way } = state;
     const dragged = this.drag.piece, still = dragged === null && chosen;
@@ -189,14 +182,58 @@ function asElement(target) {
   return target instanceof Element ? target : null;
 }
 
+/** @param {Element | undefined} found */
+function asSvg(found) {
+  return found instanceof SVGElement ? found : null;
+}
+
+/**
+ * @param {GridPicture} grid
+ * @param {Geometry} at
+ */
+function gridShape(grid, at) {
+  const sides = new Map(grid.rows.map(row => [row.name, row.side]));
+  /** @param {string} stream */
+  const side = stream => sides.get(stream) ?? 'hot';
+  const width = Math.ceil(at.width), height = Math.ceil(at.height);
+  return shape('svg', {
+    class: 'grid', role: 'group', 'aria-label': WORDS, width, height, viewBox: `0 0 ${width} ${height}`,
+    'font-size': at.size,
+  },
+  ...grid.pinches.map((pinch, place) => pinchShape(pinch, at.levels[place], at)),
+  ...grid.rows.map(row => named(`row ${row.name}`, rowShape(row, at))),
+  ...counted('line', grid.lines, line => lineShape(line, side(line.stream), at)),
+  ...counted('joint', grid.joints, joint => jointShape(joint, side(joint.stream), at)),
+  ...grid.exchangers.map(bar => named(`exchanger ${bar.name}`, exchangerShape(bar, grid, at))),
+  ...grid.pieces.map(piece => named(`piece ${piece.id}`, pieceShape(piece, at))),
+  named('over', shape('g', { class: 'over' })));
+}
+
+/**
+ * The shapes of things that have no name: each is told apart by its place on its stream.
+ * @template {{stream: string}} Thing
+ * @param {string} kind
+ * @param {Thing[]} things
+ * @param {(thing: Thing) => import('./renewing.js').Shape} shapeOf
+ */
+function counted(kind, things, shapeOf) {
+  /** @type {Map<string, number>} */
+  const counts = new Map();
+  return things.map(thing => {
+    const count = counts.get(thing.stream) ?? 0;
+    counts.set(thing.stream, count + 1);
+    return named(`${kind} ${count} ${thing.stream}`, shapeOf(thing));
+  });
+}
+
 /**
  * The names of all rows, which stay where the diagram is scrolled.
  * @param {GridPicture} grid
  * @param {Geometry} at
  */
-function namesPicture(grid, at) {
+function namesShape(grid, at) {
   const width = Math.ceil(at.names), height = Math.ceil(at.height);
-  return draw('svg', {
+  return shape('svg', {
     class: 'grid names', width, height, viewBox: `0 0 ${width} ${height}`, 'font-size': at.size,
-  }, ...grid.rows.map(row => nameShape(row, at)));
+  }, ...grid.rows.map(row => named(row.name, nameShape(row, at))));
 }

@@ -7,7 +7,10 @@ import { chosenAt } from './grid_marks.js';
 /** @type {Record<string, [number, number]>} */
 const WAYS = { ArrowLeft: [-1, 0], ArrowRight: [1, 0], ArrowUp: [0, -1], ArrowDown: [0, 1] };
 
-/** @typedef {{element: SVGElement, shape: Element, x: number, y: number}} Stop an exchanger has one at each end */
+/**
+ * @typedef {{element: SVGElement, shape: Element, x: number, y: number, isPiece: boolean}} Stop an exchanger has one at
+ * each end
+ */
 
 export class GridKeys {
   /** @param {GridPart} part */
@@ -30,7 +33,7 @@ export class GridKeys {
     const again = before && this.stops.find(stop => keyOf(stop) === keyOf(before) && stop.y === before.y);
     const same = before && this.stops.find(stop => keyOf(stop) === keyOf(before));
     // Of what is gone the piece that is open then: Delete once more takes nothing else away.
-    const open = before && nearest(this.stops.filter(isPiece), before);
+    const open = before && nearest(this.stops.filter(stop => stop.isPiece), before);
     this.goTo(again || same || open || nearest(this.stops, before) || null, focused);
   }
 
@@ -155,16 +158,11 @@ function stopsOf(picture) {
     if (!(element instanceof SVGElement)) continue;
     const shapes = element.querySelectorAll('rect');
     for (const shape of shapes.length ? shapes : element.querySelectorAll('.upright')) {
-      stops.push({ element, shape, ...middle(shape) });
+      stops.push({ element, shape, ...middle(shape), isPiece: element.dataset.piece !== undefined });
     }
   }
   return stops.sort((one, other) =>
-    Number(!isPiece(one)) - Number(!isPiece(other)) || one.y - other.y || one.x - other.x);
-}
-
-/** @param {Stop} stop */
-function isPiece(stop) {
-  return stop.element.dataset.piece !== undefined;
+    Number(!one.isPiece) - Number(!other.isPiece) || one.y - other.y || one.x - other.x);
 }
 
 /** @param {Element} shape */

@@ -50,7 +50,8 @@ export function markOne(element, marks) {
   const place = kind === 'row' ? (utility !== undefined ? 'utility' : 'stream') : kind;
   element.classList.toggle('chosen', chosen);
   element.classList.toggle('wrong', marks.places.some(wrong => wrong.kind === place && wrong.name === name));
-  if (kind === 'exchanger' || kind === 'piece') element.setAttribute('aria-pressed', String(chosen));
+  const pressed = String(chosen), named = kind === 'exchanger' || kind === 'piece';
+  if (named && element.getAttribute('aria-pressed') !== pressed) element.setAttribute('aria-pressed', pressed);
   if (kind === 'exchanger') element.classList.toggle('leg', marks.legs.has(name));
   if (kind === 'piece' || utility !== undefined) {
     const partner = marks.partners.has(name);

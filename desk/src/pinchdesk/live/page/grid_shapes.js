@@ -1,7 +1,8 @@
 // The shapes of the grid diagram: streams, splits, exchangers, open pieces, pinches.
 
-import { draw, textWidth } from './dom.js';
+import { textWidth } from './dom.js';
 import { dutyText, lowerEnd, pieceText } from './geometry.js';
+import { shape } from './renewing.js';
 
 /** @typedef {import('./contract.js').ExchangerBar} ExchangerBar */
 /** @typedef {import('./contract.js').GridPicture} GridPicture */
@@ -20,7 +21,7 @@ import { dutyText, lowerEnd, pieceText } from './geometry.js';
  * @param {import('./dom.js').Attributes} [more]
  */
 function write(x, y, text, more = {}) {
-  return draw('text', { x: round(x), y: round(y), ...more }, text);
+  return shape('text', { x: round(x), y: round(y), ...more }, text);
 }
 
 /** @param {number} length */
@@ -38,12 +39,12 @@ export function pinchShape(pinch, level, at) {
   const half = textWidth(pinch.text, at.size) / 2 + 4 * at.scale;
   const middle = Math.max(half, Math.min(x, at.width - half));
   // The column of the line alone is no band.
-  const band = pinch.end - pinch.begin > 1 && draw('rect', {
+  const band = pinch.end - pinch.begin > 1 && shape('rect', {
     class: 'band', x: round(at.x(pinch.begin)), y: top, width: round(at.x(pinch.end) - at.x(pinch.begin)),
     height: bottom - top,
-  }, draw('title', {}, 'here stands what works across the pinch'));
-  return draw('g', { class: 'pinch' }, band,
-    draw('line', { x1: round(x), y1: top, x2: round(x), y2: bottom }),
+  }, shape('title', {}, 'here stands what works across the pinch'));
+  return shape('g', { class: 'pinch' }, band,
+    shape('line', { x1: round(x), y1: top, x2: round(x), y2: bottom }),
     write(middle, top - (6 + 15 * level) * at.scale, pinch.text, { 'text-anchor': 'middle' }));
 }
 
@@ -54,16 +55,11 @@ export function pinchShape(pinch, level, at) {
  */
 export function rowShape(row, at) {
   const y = at.y(row.y), left = at.x(row.begin), right = at.x(row.end), scale = at.scale;
-  const group = rowGroup(row);
-  if (row.kind === 'utility') {
-    group.append(
-      draw('line', { class: 'reach', x1: round(left), y1: y, x2: round(right), y2: y }),
-      draw('line', { class: 'level', x1: round(left), y1: y, x2: round(right), y2: y }));
-  }
-  group.append(
+  const ends = row.kind === 'utility' && { x1: round(left), y1: y, x2: round(right), y2: y };
+  return rowGroup(row,
+    ends && shape('line', { class: 'reach', ...ends }), ends && shape('line', { class: 'level', ...ends }),
     write(left - 8 * scale, y + 4 * scale, row.first, { class: 'end', 'text-anchor': 'end' }),
-    write(right + 9 * scale, y + 4 * scale, row.last, { class: 'end' }), draw('title', {}, row.text));
-  return group;
+    write(right + 9 * scale, y + 4 * scale, row.last, { class: 'end' }), shape('title', {}, row.text));
 }
 
 /**
@@ -74,24 +70,23 @@ export function rowShape(row, at) {
 export function nameShape(row, at) {
   const y = at.y(row.y), scale = at.scale, utility = row.kind === 'utility';
   const wide = textWidth(row.name, at.size * 1.1, true) + 20 * scale;
-  const group = rowGroup(row);
-  if (utility) {
-    group.append(draw('rect', {
+  return rowGroup(row,
+    utility && shape('rect', {
       class: 'box', x: 12 * scale, y: y - 13 * scale, width: round(wide), height: 26 * scale, rx: 4 * scale,
-    }));
-  }
-  group.append(write(utility ? 22 * scale : 12 * scale, y + (row.detail && !utility ? 0 : 4 * scale), row.name,
-    { class: 'name' }));
-  if (row.detail) group.append(write(12 * scale, y + (utility ? 26 : 13) * scale, row.detail, { class: 'detail' }));
-  group.append(draw('title', {}, row.text));
-  return group;
+    }),
+    write(utility ? 22 * scale : 12 * scale, y + (row.detail && !utility ? 0 : 4 * scale), row.name, { class: 'name' }),
+    row.detail && write(12 * scale, y + (utility ? 26 : 13) * scale, row.detail, { class: 'detail' }),
+    shape('title', {}, row.text));
 }
 
-/** @param {GridRow} row */
-function rowGroup(row) {
-  return draw('g', {
+/**
+ * @param {GridRow} row
+ * @param {...import('./renewing.js').Part} parts
+ */
+function rowGroup(row, ...parts) {
+  return shape('g', {
     class: `row ${row.kind} ${row.side}`, 'data-row': row.name, 'data-utility': row.kind === 'utility' && row.name,
-  });
+  }, ...parts);
 }
 
 /**
@@ -102,20 +97,14 @@ function rowGroup(row) {
 export function lineShape(line, side, at) {
   const y = at.y(line.y), from = at.x(line.begin), to = at.x(line.end), scale = at.scale;
   const ends = { x1: round(from), y1: y, x2: round(to), y2: y };
-  const group = draw('g', { class: `line ${side}`, 'data-lane': line.y },
-    draw('line', { class: 'touch', ...ends }), draw('line', ends));
-  if (line.arrow) {
-    const way = side === 'hot' ? 1 : -1, tip = way > 0 ? Math.max(from, to) : Math.min(from, to);
-    const back = round(tip - way * 8 * scale);
-    const high = 6 * scale;
-    group.append(draw('path', { class: 'arrow', d: `M${back} ${y - high}L${round(tip)} ${y}L${back} ${y + high}` }));
-  }
-  if (line.label) {
-    group.append(write(at.x(line.label_x), y - at.over(line), line.label, {
+  const way = side === 'hot' ? 1 : -1, tip = way > 0 ? Math.max(from, to) : Math.min(from, to);
+  const back = round(tip - way * 8 * scale), high = 6 * scale;
+  return shape('g', { class: `line ${side}`, 'data-lane': line.y },
+    shape('line', { class: 'touch', ...ends }), shape('line', ends),
+    line.arrow && shape('path', { class: 'arrow', d: `M${back} ${y - high}L${round(tip)} ${y}L${back} ${y + high}` }),
+    line.label !== '' && write(at.x(line.label_x), y - at.over(line), line.label, {
       class: line.kind, 'text-anchor': 'middle',
     }));
-  }
-  return group;
 }
 
 /**
@@ -129,9 +118,9 @@ export function jointShape(joint, side, at) {
     'data-joint': joint.id, 'data-key': `joint ${joint.id} ${joint.x}`, role: 'button', tabindex: -1,
     'aria-label': `split of ${joint.stream}: ${joint.shares.map(share => `${share} %`).join(', ')}`,
   } : {};
-  return draw('g', { class: `joint ${side}`, ...named },
-    draw('line', { class: 'touch', x1: round(x), y1: first, x2: round(x), y2: last }),
-    draw('line', { class: 'upright', x1: round(x), y1: first, x2: round(x), y2: last }));
+  return shape('g', { class: `joint ${side}`, ...named },
+    shape('line', { class: 'touch', x1: round(x), y1: first, x2: round(x), y2: last }),
+    shape('line', { class: 'upright', x1: round(x), y1: first, x2: round(x), y2: last }));
 }
 
 /**
@@ -147,13 +136,13 @@ export function exchangerShape(exchanger, grid, at) {
   const way = x === u ? `M${round(x)} ${y}V${v}`
     : `M${round(x)} ${y}V${middle - bend}L${round(u)} ${middle + bend}V${v}`;
   const low = lowerEnd(exchanger);
-  return draw('g', {
+  return shape('g', {
     class: `exchanger ${exchanger.kind} ${exchanger.where || 'nowhere'}${exchanger.fault ? ' fault' : ''}`,
     'data-exchanger': exchanger.name, 'data-key': `exchanger ${exchanger.name}`, role: 'button', tabindex: -1,
     'aria-label': exchanger.text,
   },
-  draw('title', {}, exchanger.text),
-  draw('path', { class: 'touch', d: way }), draw('path', { class: 'bar', d: way }),
+  shape('title', {}, exchanger.text),
+  shape('path', { class: 'touch', d: way }), shape('path', { class: 'bar', d: way }),
   endShape(exchanger.name, x, y, 'hot', at), endShape(exchanger.name, u, v, 'cold', at),
   write(at.x(low.x), at.y(low.y) + at.radius + 12 * at.scale, dutyText(exchanger), {
     class: 'duty', 'text-anchor': 'middle',
@@ -179,8 +168,8 @@ function slantOf(exchanger, grid) {
  */
 function endShape(name, x, y, side, at) {
   const wide = at.pill(name);
-  return draw('g', { class: `ending ${side}`, 'data-end': side },
-    draw('rect', {
+  return shape('g', { class: `ending ${side}`, 'data-end': side },
+    shape('rect', {
       x: round(x - wide / 2), y: round(y - at.radius), width: round(wide), height: 2 * at.radius, rx: at.radius,
     }),
     write(x, y + at.size * 0.36, name, { 'text-anchor': 'middle' }));
@@ -192,13 +181,13 @@ function endShape(name, x, y, side, at) {
  */
 export function pieceShape(piece, at) {
   const x = at.x(piece.x), y = at.y(piece.y), text = pieceText(piece), wide = at.pill(text);
-  return draw('g', {
+  return shape('g', {
     class: `piece ${piece.side}${piece.fault ? ' fault' : ''}`, 'data-piece': piece.id, 'data-key': `piece ${piece.id}`,
     'data-on': piece.y, role: 'button', tabindex: -1, 'aria-haspopup': 'true',
     'aria-label': piece.text,
   },
-  draw('title', {}, piece.text),
-  draw('rect', {
+  shape('title', {}, piece.text),
+  shape('rect', {
     x: round(x - wide / 2), y: round(y - at.radius), width: round(wide), height: 2 * at.radius, rx: at.radius,
   }),
   write(x, y + at.size * 0.36, text, { 'text-anchor': 'middle' }));

@@ -18,12 +18,14 @@ import { lostPart, toastPart, topPart } from './top.js';
 import { WaysPart } from './ways.js';
 
 /**
- * How long it took from the end of a gesture until it is painted, for those who measure.
+ * When a new view is drawn, and when it is on the screen, for those who measure: the frame behind that in which it is
+ * painted has begun then.
  * @type {import('./state.js').Renderer}
  */
 const measured = (state, before) => {
   if (!before || state.view === before.view) return;
-  requestAnimationFrame(() => setTimeout(() => performance.mark('painted', { detail: state.view.version })));
+  performance.mark('drawn');
+  requestAnimationFrame(() => requestAnimationFrame(() => performance.mark('painted')));
 };
 
 /**

@@ -1,6 +1,6 @@
 // How good the network is, and the steps that led to it.
 
-import { draw, fill, make } from './dom.js';
+import { draw, fill, make, whenDrawn } from './dom.js';
 import { viewChanged } from './state.js';
 
 /** @typedef {import('./actions.js').Actions} Actions */
@@ -79,7 +79,7 @@ export function stepsPart(panel, actions) {
         type: 'button', 'data-key': `step ${at}`, 'aria-current': step.present ? 'step' : null,
         click: () => actions.do({ kind: 'step', at }),
       }, step.text)))));
-    showPresent(panel);
+    whenDrawn(() => showPresent(panel));
   };
 }
 

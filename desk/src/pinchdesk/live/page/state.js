@@ -1,5 +1,7 @@
 // What the page knows: the view of the desk, and what the user is at.
 
+import { drawTogether } from './dom.js';
+
 /** @typedef {import('./contract.js').Offer} Offer */
 /** @typedef {import('./contract.js').Refusal} Refusal */
 /** @typedef {import('./contract.js').Slider} Slider */
@@ -57,7 +59,8 @@ export class Store {
     const before = this.state;
     if (changes.view) changes = { ...changes, view: shared(changes.view, before.view) };
     this.state = { ...before, ...changes };
-    for (const renderer of this.renderers) renderer(this.state, before);
+    const { state } = this;
+    drawTogether(() => { for (const renderer of this.renderers) renderer(state, before); });
   }
 }
 
@@ -71,11 +74,22 @@ export class Store {
 function shared(view, before) {
   /** @type {Record<string, unknown>} */
   const parts = { ...view };
-  for (const [name, old] of Object.entries(before)) {
-    if (JSON.stringify(parts[name]) === JSON.stringify(old)) parts[name] = old;
-  }
+  for (const [name, old] of Object.entries(before)) if (isSame(parts[name], old)) parts[name] = old;
   if (Object.entries(before).every(([name, old]) => parts[name] === old)) return before;
   return /** @type {View} */ (/** @type {unknown} */ (parts));
+}
+
+/**
+ * Whether two answers say the same; it ends at the first difference.
+ * @param {any} one
+ * @param {any} other
+ * @returns {boolean}
+ */
+function isSame(one, other) {
+  if (one === other) return true;
+  if (typeof one !== 'object' || typeof other !== 'object' || one === null || other === null) return false;
+  const names = Object.keys(one);
+  return names.length === Object.keys(other).length && names.every(name => isSame(one[name], other[name]));
 }
 
 /**

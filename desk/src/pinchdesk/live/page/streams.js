@@ -9,6 +9,7 @@ import { changed, viewChanged } from './state.js';
 /** @typedef {import('./contract.js').UtilityRow} UtilityRow */
 /** @typedef {import('./contract.js').ForbidRow} ForbidRow */
 /** @typedef {import('./contract.js').View} View */
+/** @typedef {import('./state.js').State} State */
 /** @typedef {import('./dom.js').Child} Child */
 
 /** What can be added: the words of its fields, and which of them are chosen from a list. */
@@ -42,33 +43,69 @@ export class StreamsPart {
     this.longest = 0;
     /** @type {Map<string, string>} what is wrong in a cell */
     this.wrong = new Map();
+    this.heading = make('h2', { id: 'streams-title' });
+    this.streams = make('div', { class: 'wide' });
+    this.utilities = make('div', { class: 'wide' });
+    this.forbids = make('div');
+    this.fault = make('div');
+    this.forms = make('div', { class: 'adders' });
+    fill(panel, this.heading, this.streams, this.utilities, this.forbids, this.fault, this.forms);
   }
 
   /** @type {import('./state.js').Renderer} */
   render = (state, before) => {
-    if (!changed(state, before, 'refusal')
-      && !viewChanged(state, before, 'streams', 'utilities', 'forbids', 'units', 'verdict')) return;
     const { view } = state, { temperature, flow, heat, difference } = view.units;
+    const cells = before === null || this.marked(state) || changed(state, before, 'refusal') && this.typed.key !== ''
+      || viewChanged(state, before, 'units');
     this.longest = Math.max(...[...view.streams, ...view.utilities].map(source => source.name.length), 3);
-    const marks = [...state.refusal?.places ?? [], ...view.verdict.places].filter(mark => mark.kind === 'cell');
-    const text = state.refusal?.text ?? view.verdict.text;
-    this.wrong = new Map(marks.map(mark => [`${mark.name} ${mark.field}`, text]));
-    if (state.refusal && this.typed.key) this.wrong.set(this.typed.key, text);
-    fill(this.panel,
-      make('h2', { id: 'streams-title' }, 'Streams ', make('small', {}, `${temperature}, ${flow}, ${heat}`)),
-      make('div', { class: 'wide' }, make('table', { class: 'cells' },
-        head(['', 'supply', 'target', 'CP', 'load', 'own ΔT', '']),
-        make('tbody', {}, ...view.streams.flatMap(stream => stream.segments.length ? this.wholeRows(stream)
-          : [this.streamRow(stream)])))),
-      view.utilities.length > 0 && make('div', { class: 'wide' }, make('table', { class: 'cells' },
-        head(['utility', 'level', 'uses', 'at most', 'price', 'own ΔT', '']),
-        make('tbody', {}, ...view.utilities.map(utility => this.utilityRow(utility))))),
-      view.forbids.length > 0 && make('ul', { class: 'forbids', 'aria-label': 'forbidden matches' },
-        ...view.forbids.map(forbid => make('li', {}, `${forbid.hot} and ${forbid.cold} may not meet `,
-          this.remover(forbid.row, `the forbidden match of ${forbid.hot} and ${forbid.cold}`)))),
-      ...[...this.wrong.values()].slice(0, 1).map(text => make('p', { class: 'fault', id: 'cell-fault' }, `⚠ ${text}`)),
-      this.adders(view, difference));
+    if (cells || viewChanged(state, before, 'streams')) {
+      fill(this.heading, 'Streams ', make('small', {}, `${temperature}, ${flow}, ${heat}`));
+      fill(this.streams, this.streamTable(view));
+    }
+    if (cells || viewChanged(state, before, 'streams', 'utilities')) fill(this.utilities, this.utilityTable(view));
+    this.utilities.hidden = !view.utilities.length;
+    if (viewChanged(state, before, 'forbids')) fill(this.forbids, this.forbidList(view));
+    if (cells) {
+      fill(this.fault, ...[...this.wrong.values()].slice(0, 1).map(text =>
+        make('p', { class: 'fault', id: 'cell-fault' }, `⚠ ${text}`)));
+    }
+    if (changed(state, before, 'refusal') || viewChanged(state, before, 'streams', 'utilities', 'units')) {
+      fill(this.forms, ...this.adders(view, difference));
+    }
   };
+
+  /**
+   * Takes what is wrong in cells, and says whether it is another than before.
+   * @param {State} state
+   */
+  marked(state) {
+    const { refusal, view } = state, before = JSON.stringify([...this.wrong]);
+    const marks = [...refusal?.places ?? [], ...view.verdict.places].filter(mark => mark.kind === 'cell');
+    const text = refusal?.text ?? view.verdict.text;
+    this.wrong = new Map(marks.map(mark => [`${mark.name} ${mark.field}`, text]));
+    if (refusal && this.typed.key) this.wrong.set(this.typed.key, text);
+    return JSON.stringify([...this.wrong]) !== before;
+  }
+
+  /** @param {View} view */
+  streamTable(view) {
+    return make('table', { class: 'cells' }, head(['', 'supply', 'target', 'CP', 'load', 'own ΔT', '']),
+      make('tbody', {}, ...view.streams.flatMap(stream => stream.segments.length ? this.wholeRows(stream)
+        : [this.streamRow(stream)])));
+  }
+
+  /** @param {View} view */
+  utilityTable(view) {
+    return make('table', { class: 'cells' }, head(['utility', 'level', 'uses', 'at most', 'price', 'own ΔT', '']),
+      make('tbody', {}, ...view.utilities.map(utility => this.utilityRow(utility))));
+  }
+
+  /** @param {View} view */
+  forbidList(view) {
+    return view.forbids.length > 0 && make('ul', { class: 'forbids', 'aria-label': 'forbidden matches' },
+      ...view.forbids.map(forbid => make('li', {}, `${forbid.hot} and ${forbid.cold} may not meet `,
+        this.remover(forbid.row, `the forbidden match of ${forbid.hot} and ${forbid.cold}`))));
+  }
 
   /**
    * A stream of several segments is one row, which opens.
@@ -196,12 +233,12 @@ export class StreamsPart {
    */
   adders(view, difference) {
     const kinds = /** @type {('stream' | 'utility' | 'forbid')[]} */ (['stream', 'utility', 'forbid']);
-    return make('div', { class: 'adders' }, ...kinds.map(kind => make('details', {
+    return kinds.map(kind => make('details', {
       open: this.opened === kind, toggle: (/** @type {{target: HTMLDetailsElement}} */ event) => {
         if (event.target.open) this.opened = kind;
         else if (this.opened === kind) this.opened = '';
       },
-    }, make('summary', { 'data-key': `add ${kind}` }, `Add ${TITLES[kind]}`), this.adder(kind, view, difference))));
+    }, make('summary', { 'data-key': `add ${kind}` }, `Add ${TITLES[kind]}`), this.adder(kind, view, difference)));
   }
 
   /**

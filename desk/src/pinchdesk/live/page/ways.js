@@ -1,6 +1,6 @@
 // Loops and paths: what can be moved along each and what it costs, what stops it, what breaks and what mends.
 
-import { asks, fill, keyed, make } from './dom.js';
+import { asks, fill, keyed, make, whenDrawn } from './dom.js';
 import { changed } from './state.js';
 
 /** @typedef {import('./actions.js').Actions} Actions */
@@ -45,13 +45,17 @@ export class WaysPart {
     fill(this.panel, make('h2', { id: 'ways-title' }, 'Loops and paths'), ways.length
       ? make('ol', { class: 'ways' }, ...ways.map(way => this.item(way, state.view))) : make('p', {}, NONE),
     more && make('p', { class: 'pale' }, more));
-    if (scrolled) this.panel.scrollTop = scrolled;
-    if (key === null || keyed(this.panel, key)) return;
+    const isGone = key !== null && !keyed(this.panel, key);
+    if (scrolled || isGone) whenDrawn(() => { this.panel.scrollTop = isGone ? 0 : scrolled; });
     // What had the focus is gone: it is in the first box, which mends, or else goes back to the diagram.
-    this.panel.scrollTop = 0;
+    if (isGone) whenDrawn(() => this.elsewhere(ways));
+  };
+
+  /** @param {WayOffer[]} ways */
+  elsewhere(ways) {
     if (!ways[0]?.mends.length) this.back();
     else if (document.activeElement instanceof HTMLInputElement) document.activeElement.select();
-  };
+  }
 
   /** @param {PointerEvent} event */
   pointed(event) {
