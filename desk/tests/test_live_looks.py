@@ -59,6 +59,34 @@ def test_no_number_of_a_cell_is_cut(opens: Opens, tmp_path: Path) -> None:
     assert '1234560' in [cell.get_attribute('value') for cell in page.all('.cells input')]
 
 
+PLACES = '''return ['chosen', 'ways', 'score', 'steps', 'curves'].map(name =>
+  document.getElementById(name).getBoundingClientRect().top + scrollY)'''
+# Of temperatures and shares those that an exchanger is drawn over, and whether all of the verdict is seen.
+CROSSED = '''const last = [...document.querySelectorAll('#grid .exchanger')].pop();
+return [...document.querySelectorAll('#grid .temperature, #grid .share')]
+  .filter(label => !(last.compareDocumentPosition(label) & Node.DOCUMENT_POSITION_FOLLOWING)).length'''
+IN_SIGHT = '''const box = document.getElementById('verdict').getBoundingClientRect();
+return box.top >= 0 && document.elementFromPoint(box.x + 9, box.y + box.height / 2).closest('#verdict') !== null'''
+
+
+@pytest.mark.long
+def test_a_split_moves_nothing_beside_the_diagram_and_the_verdict_stays_in_sight(page: LivePage) -> None:
+    """Nor does the last gesture; and no bar goes through a temperature or a share."""
+    driver = page.driver
+    before = driver.execute_script(PLACES)
+    page.place(('S1', '120'), ('S3', '137.5'))
+    page.place(('S2', '240'), ('S4', '135'))
+    page.until(lambda: page.all('[data-joint]'))
+    assert driver.execute_script(PLACES) == before
+    assert 'placed + to come' in page.text('#score h3') and page.text('#score .units').startswith('2 + 5 = 7')
+    page.button('Serve the rest', '#score').click()
+    page.says('Accepted')
+    assert driver.execute_script(PLACES) == before
+    assert page.all('#grid .share') and not driver.execute_script(CROSSED)
+    driver.execute_script('scrollTo(0, document.documentElement.scrollHeight)')
+    assert driver.execute_script('return scrollY') > 0 and driver.execute_script(IN_SIGHT)
+
+
 @pytest.mark.long
 def test_a_screen_reader_has_a_name_for_all_that_can_be_done(opens: Opens, tmp_path: Path) -> None:
     """What the browser tells a screen reader: each control with its own name, the verdict as what changes."""

@@ -46,7 +46,15 @@ export class Geometry {
     })));
     this.top = (TOP + 16 * Math.max(0, ...this.levels)) * scale;
     this.width = this.left + this.right + pitch * columns;
-    this.height = this.top + LANE * scale * Math.max(grid.lanes - 1, 0) + 44 * scale;
+    this.height = this.heightOf(grid.lanes);
+  }
+
+  /**
+   * How high a diagram of so many lanes is.
+   * @param {number} lanes
+   */
+  heightOf(lanes) {
+    return this.top + (LANE * Math.max(lanes - 1, 0) + 44) * this.scale;
   }
 
   /**

@@ -2,7 +2,9 @@
 
 import { draw, fill, keyed, lettersChanged, make, whenDrawn } from './dom.js';
 import { Geometry } from './geometry.js';
-import { exchangerShape, jointShape, lineShape, nameShape, pieceShape, pinchShape, rowShape } from './grid_shapes.js';
+import {
+  exchangerShape, jointShape, labelShape, lineShape, nameShape, pieceShape, pinchShape, rowShape,
+} from './grid_shapes.js';
 import { GridKeys } from './grid_keys.js';
 import { meantAt } from './grid_hits.js';
 import { chosenAt, markOne, partnersOf } from './grid_marks.js';
@@ -18,6 +20,8 @@ import { changed, viewChanged } from './state.js';
 const WORDS = 'Grid diagram. Arrows go from place to place, Enter opens what is there.';
 /** What the panel has left and right of the diagram, in pixels. */
 const PADDING = 10;
+/** The lanes that may come before what stands below the diagram moves. */
+const SPARE = 2;
 const MARKED = '[data-exchanger], [data-piece], [data-utility], [data-joint], [data-row]';
 
 export class GridPart {
@@ -44,6 +48,7 @@ export class GridPart {
     /** @type {number[]} where the pinch lines stand */
     this.lines = [];
     this.scrolled = { left: 0, top: 0 };
+    this.lanes = { rows: '', most: 0 };
     new ResizeObserver(() => this.resized()).observe(panel);
   }
 
@@ -85,10 +90,21 @@ export class GridPart {
     const focused = this.panel.contains(document.activeElement);
     this.at = new Geometry(view.grid, this.room - PADDING, this.lines);
     this.lines = this.at.lines;
-    document.documentElement.style.setProperty('--diagram', `${Math.ceil(this.at.height)}px`);
+    const room = Math.ceil(this.at.heightOf(this.roomFor(view.grid)));
+    document.documentElement.style.setProperty('--diagram', `${room}px`);
     this.draw(view.grid, this.at);
     const { picture } = this;
     if (picture) whenDrawn(() => this.keys.renew(picture, focused));
+  }
+
+  /**
+   * For how many lanes there is room: a split that comes or goes moves nothing below the diagram.
+   * @param {GridPicture} grid
+   */
+  roomFor(grid) {
+    const rows = grid.rows.map(row => row.name).join(' ');
+    if (rows !== this.lanes.rows || grid.lanes > this.lanes.most) this.lanes = { rows, most: grid.lanes + SPARE };
+    return this.lanes.most;
   }
 
   /**
@@ -205,6 +221,7 @@ function gridShape(grid, at) {
   ...counted('line', grid.lines, line => lineShape(line, side(line.stream), at)),
   ...counted('joint', grid.joints, joint => jointShape(joint, side(joint.stream), at)),
   ...grid.exchangers.map(bar => named(`exchanger ${bar.name}`, exchangerShape(bar, grid, at))),
+  ...counted('label', grid.lines.filter(line => line.label), line => labelShape(line, at)),
   ...grid.pieces.map(piece => named(`piece ${piece.id}`, pieceShape(piece, at))),
   named('over', shape('g', { class: 'over' })));
 }

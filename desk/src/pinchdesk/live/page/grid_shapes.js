@@ -101,10 +101,18 @@ export function lineShape(line, side, at) {
   const back = round(tip - way * 8 * scale), high = 6 * scale;
   return shape('g', { class: `line ${side}`, 'data-lane': line.y },
     shape('line', { class: 'touch', ...ends }), shape('line', ends),
-    line.arrow && shape('path', { class: 'arrow', d: `M${back} ${y - high}L${round(tip)} ${y}L${back} ${y + high}` }),
-    line.label !== '' && write(at.x(line.label_x), y - at.over(line), line.label, {
-      class: line.kind, 'text-anchor': 'middle',
-    }));
+    line.arrow && shape('path', { class: 'arrow', d: `M${back} ${y - high}L${round(tip)} ${y}L${back} ${y + high}` }));
+}
+
+/**
+ * The temperature or the share above a line: no bar goes through it.
+ * @param {BranchLine} line
+ * @param {Geometry} at
+ */
+export function labelShape(line, at) {
+  return write(at.x(line.label_x), at.y(line.y) - at.over(line), line.label, {
+    class: line.kind, 'text-anchor': 'middle',
+  });
 }
 
 /**

@@ -306,8 +306,13 @@ export class StreamsPart {
   }
 }
 
+/** @type {Record<string, string>} what a heading means that is no word */
+const MEANINGS = {
+  CP: 'heat capacity flow: the load for each degree', 'own ΔT': 'its own part of the least approach; else the case\'s',
+};
+
 /** @param {string[]} words */
 function head(words) {
-  const cells = words.map(word => word ? make('th', { scope: 'col' }, word) : make('td'));
+  const cells = words.map(word => word ? make('th', { scope: 'col', title: MEANINGS[word] }, word) : make('td'));
   return make('thead', {}, make('tr', {}, ...cells));
 }
