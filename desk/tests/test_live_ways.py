@@ -5,6 +5,7 @@ from collections import Counter
 from itertools import chain, combinations
 from pathlib import Path
 
+import pytest
 from hypothesis import given
 from hypothesis import strategies as some
 from live_desk import Hand, bench_of
@@ -12,6 +13,7 @@ from live_desk import Hand, bench_of
 from pinchdesk.live.view import WayOffer
 from pinchdesk.live.way_finding import found_ways
 from pinchdesk.live.ways import MOST_WAYS
+from pinchdesk.program.run import Pinch
 
 HOTS, COLDS = ('HOT', 'MP', 'S1', 'S2'), ('COLD', 'S3', 'S4')
 UTILITIES = ('HOT', 'MP', 'COLD')
@@ -78,6 +80,21 @@ def test_what_a_break_costs_of_an_unfinished_network(tmp_path: Path) -> None:
     loop = way(hand, 'S1 (-E1) S3 (+E2) S1')
     assert (loop.breaks, loop.cost) == ('E1 goes (120 kW), costs 65 kW', 'all of it costs 65 kW')
     assert hand.does('break', way=loop.id).score.above == '65'
+
+
+def test_what_leaves_the_same_is_asked_of_the_program_once(tmp_path: Path, monkeypatch: pytest.MonkeyPatch) -> None:
+    """Of an unfinished network most loops and paths change nothing of what is open."""
+    hand = Hand(bench_of(tmp_path, 'crude', 'crude-network.txt'))
+    hand.does('take', exchanger=next(row.name for row in hand.view.exchangers if row.hot == 'KERO'))
+    runs: list[list[str]] = []
+    ask = Pinch.ask
+
+    def counted(pinch: Pinch, words: list[str], files: dict[str, bytes]) -> str:
+        runs.append(words)
+        return ask(pinch, words, files)
+    monkeypatch.setattr(Pinch, 'ask', counted)
+    priced = [found for found in hand.ways() if found.cost]
+    assert len(priced) > 40 and len(runs) < 30
 
 
 def test_of_too_many_ways_those_through_an_exchanger_are_shown() -> None:

@@ -73,6 +73,12 @@ def left_case(plan: HandPlan, rounding: Rounding = Rounding.HARDER) -> tuple[Cas
     return rest_case(plan.case, lefts, used, scale, rounding), scale, is_exact(lefts, plan.case, used, scale)
 
 
+def left_key(plan: HandPlan) -> tuple[object, ...]:
+    """What is the same of all plans of a case that leave the same over, and so can reach the same."""
+    pieces = [(name, plan.piece(name)) for name in plan.open]
+    return (*plan.used(True).values(), *((name, reach.size, reach.before, reach.behind) for name, reach in pieces))
+
+
 def reachable(pinch: Pinch, plan: HandPlan) -> Reachable | None:
     """What a plan can still reach; None where what is left is more than a case can hold."""
     used = plan.used(True)

@@ -11,6 +11,7 @@ from ..errors import DeskError, Refused
 from ..formats.case import Case, completed, print_case, read_case
 from ..program.answers import HeatFlow
 from ..program.causes import lines_of
+from ..program.remembered import RememberingPinch
 from ..program.run import Pinch
 from ..program.verdicts import PlaceKind, Rejected, Verdict
 from .areas import areas_of_network
@@ -83,7 +84,7 @@ class Knowing:
     """Asks `pinch`, several runs side by side, and keeps what it said."""
 
     def __init__(self, pinch: Pinch) -> None:
-        self.pinch = pinch
+        self.pinch = RememberingPinch(pinch)
         self.kept: OrderedDict[Snapshot, Known] = OrderedDict()
         self.wholes: OrderedDict[str, Whole] = OrderedDict()
         self.rules: OrderedDict[str, int] = OrderedDict()

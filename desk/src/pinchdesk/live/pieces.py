@@ -85,6 +85,7 @@ class HandPlan:
         touched = {stream.name: stream for name in duties for stream in self.streams_of(name)}
         # Where a cached property keeps what it found.
         made.__dict__['reaches'] = {**self.reaches, **made.reaches_on(touched.values())}
+        made.__dict__['open'], made.__dict__['placed'] = self.open, self.placed
         return made
 
     @cached_property
@@ -102,12 +103,12 @@ class HandPlan:
     def is_open(self, name: str) -> bool:
         return is_open(name, self.pairs[name], self.utilities)
 
-    @property
+    @cached_property
     def open(self) -> list[str]:
         """The open pieces, by their names."""
         return [name for name in self.pairs if self.is_open(name)]
 
-    @property
+    @cached_property
     def placed(self) -> list[str]:
         """The exchangers that stand, by their names."""
         return [name for name in self.pairs if not self.is_open(name)]

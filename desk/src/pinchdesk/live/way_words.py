@@ -4,14 +4,14 @@ from __future__ import annotations
 
 from collections.abc import Callable, Sequence
 from concurrent.futures import ThreadPoolExecutor
-from dataclasses import dataclass
+from dataclasses import dataclass, field
 from fractions import Fraction
 
 from ..formats.case import Side
 from ..formats.shown import Shown
 from ..program.run import Pinch
 from .faults import listed
-from .judgement import Reachable, money, reachable
+from .judgement import Reachable, left_key, money, reachable
 from .pieces import HandPlan
 from .view import WayLeg, WayOffer, WaysFound
 from .ways import Bound, Ranged, RangedWays, moved
@@ -31,6 +31,8 @@ class WayWords:
     plan: HandPlan
     before: Reachable | None
     wanted: Callable[[], bool] = lambda: True
+    # What can be reached where so much is left: most ways change nothing of it.
+    known: dict[tuple[object, ...], Reachable | None] = field(default_factory=dict)
 
     @property
     def shown(self) -> Shown:
@@ -74,7 +76,7 @@ class WayWords:
     def change(self, ranged: Ranged, heat: Fraction) -> WayCost:
         """What changes where so much is moved. Where nothing is open it is what the utilities give more or less."""
         if self.plan.open:
-            return WayCost(self.before, reachable(self.pinch, moved(self.plan, ranged.way, heat)))
+            return WayCost(self.before, self.reached(moved(self.plan, ranged.way, heat)))
         before, hot, paid = self.before, Fraction(0), Fraction(0)
         if before is None:
             return WayCost(None, None)
@@ -86,6 +88,12 @@ class WayWords:
                 paid += more * utility.price
         cost = None if before.cost is None else before.cost + paid
         return WayCost(before, Reachable(before.least + hot, before.most + hot, cost))
+
+    def reached(self, plan: HandPlan) -> Reachable | None:
+        key = left_key(plan)
+        if key not in self.known:
+            self.known[key] = reachable(self.pinch, plan)
+        return self.known[key]
 
     def breaks(self, ranged: Ranged) -> str:
         """What goes where a loop is broken, what that costs, and what is too close then."""
