@@ -168,8 +168,9 @@ def heat_above(side: SideState, duty: Fraction, pinch: PinchPoint) -> Fraction |
         return duty if warm or high > pinch.temperature else Fraction(0)
     if high == low:
         return duty if pinch.is_below(low) else Fraction(0)
-    part = (high - max(low, min(high, Fraction(pinch.temperature)))) / (high - low)
-    return duty * part
+    if low >= pinch.temperature:
+        return duty
+    return duty * (high - pinch.temperature) / (high - low) if high > pinch.temperature else Fraction(0)
 
 
 def pinches_of(targets: Targets, curves: Curves) -> tuple[PinchPoint, ...]:
