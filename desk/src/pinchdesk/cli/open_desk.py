@@ -1,6 +1,7 @@
 """The word `open`: the live desk for a case and a network, in the browser, until it is closed."""
 from __future__ import annotations
 
+import gc
 import os
 import tempfile
 import webbrowser
@@ -24,6 +25,8 @@ if TYPE_CHECKING:
 SUMMARY = 'the live desk: curves and a grid on which a network is made by hand, in the browser'
 EXAMPLE = 'pinchdesk open examples/tc3.csv mine.txt'
 NEW_CASE = 'case.csv'
+# So many new objects there are before it is looked whether some hold one another alone.
+MANY_OBJECTS = 50_000
 
 
 def add_open(added: Any) -> None:
@@ -48,6 +51,8 @@ def opened(parsed: Namespace) -> int:
         put(f'The desk is open at {served.address} and ends by Ctrl-C.\n')
         if not parsed.no_browser:
             stack.enter_context(shown_in_browser(served.address))
+        # A gesture makes a hundred thousand small ones: to look among all that there are took an eighth of its time.
+        gc.set_threshold(MANY_OBJECTS)
         served.run()
     return Status.GOOD
 
