@@ -51,7 +51,7 @@ def opened(parsed: Namespace) -> int:
         put(f'The desk is open at {served.address} and ends by Ctrl-C.\n')
         if not parsed.no_browser:
             stack.enter_context(shown_in_browser(served.address))
-        # A gesture makes a hundred thousand small ones: to look among all that there are took an eighth of its time.
+        # A gesture makes a hundred thousand small ones, and to look among all that there are takes time each time.
         gc.set_threshold(MANY_OBJECTS)
         served.run()
     return Status.GOOD

@@ -56,8 +56,9 @@ class RememberingPinch(Pinch):
 
 
 def digest_of(words: list[str], files: dict[str, bytes]) -> bytes:
-    """What the words and the contents of all files are told apart by."""
-    digest = hashlib.sha256()
-    for part in (*(word.encode() for word in words), *files.values()):
+    """What the words and all files are told apart by."""
+    digest = hashlib.sha256(len(words).to_bytes(8, 'big'))
+    named = (part for name, content in files.items() for part in (name.encode(), content))
+    for part in (*(word.encode() for word in words), *named):
         digest.update(len(part).to_bytes(8, 'big') + part)
     return digest.digest()
