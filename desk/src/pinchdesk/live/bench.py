@@ -267,7 +267,7 @@ class Bench:
         """What the network would be with another least approach, in words: as much of it as an audit says."""
         if known.plan is None or not known.plan.placed:
             return ''
-        pinch, plan = self.knowing.pinch, replace(known.plan, case=whole.case)
+        pinch, plan = self.knowing.pinch, known.plan.with_contributions(whole.case)
         stand = judged_stand(pinch, plan, pinch.audit(as_content(case), known.snapshot.network_bytes))
         judged = judgement_of(Standing(whole, plan, stand, None, 0, 0))
         return f'{judged.title}: {judged.text}'

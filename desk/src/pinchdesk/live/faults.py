@@ -19,25 +19,39 @@ APPROACHES = ('HotEndApproach', 'ColdEndApproach')
 
 def faults_of(stand: Stand, plan: HandPlan) -> dict[str, str]:
     """What is wrong at exchangers, by their names, that which the audit found first."""
+    verdict, too_close = stand.placed, set(plan.too_close)
+    found: dict[str, str] = {}
+    for name in wrong_names(stand, plan):
+        if isinstance(verdict, Rejected) and is_found_at(verdict, name):
+            found[name] = sentence_of(verdict, Shown(plan.case.basis), plan)
+        else:
+            found[name] = close_told(plan, name) if name in too_close and not is_forbidden(plan, name) else \
+                f'{name}: {REASONS["Forbidden"]}'
+    return found
+
+
+def wrong_names(stand: Stand, plan: HandPlan) -> list[str]:
+    """The exchangers at which something is wrong, that which the audit found first."""
     verdict = stand.placed
     if not isinstance(verdict, Rejected):
-        return {}
-    found: dict[str, str] = {}
-    if verdict.place.kind is PlaceKind.EXCHANGER:
-        found[verdict.place.name] = sentence_of(verdict, Shown(plan.case.basis), plan)
-    may_not = {(pair.hot, pair.cold) for pair in plan.case.forbids}
-    for name in plan.placed:
-        if plan.pairs[name] in may_not:
-            found.setdefault(name, f'{name}: {REASONS["Forbidden"]}')
-    for name in plan.too_close:
-        found.setdefault(name, close_told(plan, name))
-    return found
+        return []
+    first = [verdict.place.name] if verdict.place.kind is PlaceKind.EXCHANGER else []
+    forbidden = [name for name in plan.placed if is_forbidden(plan, name)]
+    return list(dict.fromkeys([*first, *forbidden, *plan.too_close]))
+
+
+def is_found_at(verdict: Rejected, name: str) -> bool:
+    return verdict.place.kind is PlaceKind.EXCHANGER and verdict.place.name == name
+
+
+def is_forbidden(plan: HandPlan, name: str) -> bool:
+    return plan.pairs[name] in plan.forbidden
 
 
 def rejection_told(stand: Stand, plan: HandPlan, verdict: Rejected) -> tuple[str, tuple[Mark, ...]]:
     """Why a network is rejected, with the names of what else is wrong, and all of its places."""
     text, marks = sentence_of(verdict, Shown(plan.case.basis), plan), marks_of(verdict)
-    others = [name for name in faults_of(stand, plan) if Mark('exchanger', name) not in marks]
+    others = [name for name in wrong_names(stand, plan) if Mark('exchanger', name) not in marks]
     if others:
         words = 'too close' if verdict.reason in APPROACHES and set(others) <= set(plan.too_close) else 'wrong'
         text += f'; {listed(others)} {"is" if len(others) == 1 else "are"} {words} too'

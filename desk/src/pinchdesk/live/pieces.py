@@ -88,6 +88,14 @@ class HandPlan:
         made.__dict__['open'], made.__dict__['placed'] = self.open, self.placed
         return made
 
+    def with_contributions(self, case: Case) -> HandPlan:
+        """The plan in a case that differs from its own by contributions alone: no temperature is another one."""
+        made, streams = replace(self, case=case), {stream.name: stream for stream in case.streams}
+        made.__dict__['reaches'] = {end: replace(reach, stream=streams[reach.stream.name])
+                                    for end, reach in self.reaches.items()}
+        made.__dict__['all_differences'] = self.all_differences
+        return made
+
     @cached_property
     def sources(self) -> Mapping[str, Source]:
         return {source.name: source for source in self.case.sources}
@@ -144,7 +152,12 @@ class HandPlan:
         """The differences of all that stands."""
         return {name: self.differences(name) for name in self.placed}
 
-    @property
+    @cached_property
+    def forbidden(self) -> frozenset[tuple[str, str]]:
+        """The pairs that may not meet."""
+        return frozenset((pair.hot, pair.cold) for pair in self.case.forbids)
+
+    @cached_property
     def too_close(self) -> list[str]:
         """What stands and does not keep its least difference."""
         return [name for name, ends in self.all_differences.items() if min(ends) < self.approach(name)]
