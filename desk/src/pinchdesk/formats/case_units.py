@@ -51,13 +51,14 @@ class CaseUnits:
 
     def shown_temperature(self, number: int | Fraction) -> Fraction:
         """A temperature of the case in its unit."""
-        return Fraction(number) / self.steps + self.zero
+        above = number / self.steps
+        return above + self.zero if self.zero else above
 
     def shown_difference(self, number: int | Fraction) -> Fraction:
-        return Fraction(number) / self.steps
+        return number / self.steps
 
     def shown_heat(self, number: int | Fraction) -> Fraction:
-        return Fraction(number) / self.parts
+        return number / self.parts
 
     def shown_flow(self, number: int | Fraction) -> Fraction:
         return Fraction(number) * self.steps / self.parts

@@ -19,12 +19,12 @@ Number = int | Fraction
 def decimal(value: Number, places: int) -> str:
     """A number with at most so many decimals, rounded half away from 0, without zeros at its end: 5/3 in 2 places is
     1.67."""
-    fraction = Fraction(value)
-    whole = (abs(fraction.numerator) * 10 ** places * 2 + fraction.denominator) // (2 * fraction.denominator)
+    numerator, denominator = value.numerator, value.denominator
+    whole = (abs(numerator) * 10 ** places * 2 + denominator) // (2 * denominator)
     digits = str(whole).rjust(places + 1, '0')
     text = digits[:len(digits) - places] + ('.' + digits[len(digits) - places:] if places else '')
     text = text.rstrip('0').rstrip('.') if places else text
-    return '-' + text if fraction < 0 and text != '0' else text
+    return '-' + text if numerator < 0 and text != '0' else text
 
 
 def decimal_up(value: Number, places: int) -> str:

@@ -36,7 +36,7 @@ def read_plan(case: Case, text: str) -> tuple[HandPlan, TextLayout]:
     """The plan of a text that the program has read for this completed case, and how it is laid out. Open branches
     become open pieces. `Refused` where a plan cannot hold it: then it is shown, and changed by its text alone."""
     network = read_network(text)
-    followed = follow(case, finished(case, network))
+    followed = finished(case, network)
     check_held(followed)
     structure = structure_of(case, followed.network)
     orders = lane_orders(followed.network, case)
@@ -69,8 +69,9 @@ def check_held(followed: Followed) -> None:
             raise odd(f'branch {name}', 'there is nothing in it')
 
 
-def finished(case: Case, network: Network) -> Network:
-    """A network whose open branches are led to the targets of their streams by open pieces, then mixed and ended."""
+def finished(case: Case, network: Network) -> Followed:
+    """A network, followed, whose open branches are led to the targets of their streams by open pieces, then mixed and
+    ended."""
     followed = follow(case, network)
     lefts = left_of(case, open_branches(followed))
     taken = {exchanger.name for exchanger in network.exchangers}
@@ -94,7 +95,7 @@ def finished(case: Case, network: Network) -> Network:
             at = ready
         if at:
             added.append(End(at))
-    return Network((*network.statements, *added))
+    return follow(case, Network((*network.statements, *added))) if added else followed
 
 
 def any_utility(case: Case, stream: Stream) -> str:
