@@ -91,7 +91,8 @@ export class Drag {
       // Not before: what is captured gets the click too.
       picture.setPointerCapture(event.pointerId);
       pull.line = draw('line', { class: 'pull', x1: pull.from.x, y1: pull.from.y });
-      picture.append(pull.line);
+      // Below what has a duty, so that it covers none.
+      picture.querySelector('.pulled')?.append(pull.line);
       picture.classList.add('dragging');
       requestAnimationFrame(this.roll);
       if (pull.kind !== 'piece') this.part.actions.findMoves(pull.name);

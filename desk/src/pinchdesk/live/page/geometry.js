@@ -164,7 +164,7 @@ export function lowerEnd(bar) {
  * @param {ExchangerBar} bar
  */
 export function dutyText(bar) {
-  const across = bar.where === 'across' ? ` (↯ ${crossingText(bar.crossing)})` : '';
+  const across = bar.where === 'across' && bar.crossing ? ` (↯ ${crossingText(bar.crossing)})` : '';
   return (bar.fault ? '⚠ ' : '') + bar.duty + across;
 }
 
@@ -173,7 +173,7 @@ export function dutyText(bar) {
  * @param {string} crossing
  */
 export function crossingText(crossing) {
-  return crossing.startsWith('-') ? `${crossing.slice(1)} up` : crossing || '0';
+  return crossing.startsWith('-') ? `${crossing.slice(1)} up` : crossing;
 }
 
 /** @param {import('./contract.js').OpenPill} piece */

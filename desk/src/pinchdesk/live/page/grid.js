@@ -220,6 +220,7 @@ function gridShape(grid, at) {
   ...grid.rows.map(row => named(`row ${row.name}`, rowShape(row, at))),
   ...counted('line', grid.lines, line => lineShape(line, side(line.stream), at)),
   ...counted('joint', grid.joints, joint => jointShape(joint, side(joint.stream), at)),
+  named('pulled', shape('g', { class: 'pulled' })),
   ...grid.exchangers.map(bar => named(`exchanger ${bar.name}`, exchangerShape(bar, grid, at))),
   ...counted('label', grid.lines.filter(line => line.label), line => labelShape(line, at)),
   ...grid.pieces.map(piece => named(`piece ${piece.id}`, pieceShape(piece, at))),
