@@ -2,16 +2,9 @@
 //! name, checks each answer, and prints what it costs. The times go to the standard error.
 #![tactic(auto)]
 
-mod answer;
-mod limits;
-mod problem;
-#[cfg(test)]
-mod tests;
-
-use crate::answer::checked_cost;
-use crate::limits::is_solvable;
 use anyhow::{Context, Result, bail};
 use flow_net::solve;
+use flow_problem::{checked_cost, is_solvable, read};
 use std::fs::Files;
 use std::io::Eprint;
 use std::rt::Clock;
@@ -31,7 +24,7 @@ fn main(rt: HostRuntime) -> Result<()> {
 /// Solves the net of a file, and prints what it costs, or that it is blocked.
 fn bench<R: Files + Clock + Print + Eprint + AllocGlobal>(rt: &R, path: String) -> Result<()> {
     let alloc = rt.alloc();
-    let problem = problem::read(alloc, &fs::read_to_string(rt, path)?)?;
+    let problem = read(alloc, &fs::read_to_string(rt, path)?)?;
     let start = problem.start(alloc)?;
     if !is_solvable(&problem, start.as_slice()) {
         bail!("the net is not within the limits");

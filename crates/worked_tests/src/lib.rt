@@ -11,6 +11,8 @@ mod corner_flow_tests;
 #[cfg(test)]
 mod curves_tests;
 #[cfg(test)]
+mod flow_problem_tests;
+#[cfg(test)]
 mod flows;
 #[cfg(test)]
 mod grid_tests;

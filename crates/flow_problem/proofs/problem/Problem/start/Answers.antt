@@ -1,7 +1,7 @@
 -- One node more.
-use Rattle.flow_bench.proofs.Words.{map-range_with_len_more, range_with_len, start_at, to_z-of_z}
+use Rattle.flow_problem.proofs.Words.{map-range_with_len_more, range_with_len, start_at, to_z-of_z}
 use Rattle.std.proofs.Common.{FitsSigned, [], ap, ap₂, arith, map, rules, sym, w64, ◌++◌, ◌∙◌, ◌∷◌, ◌≡◌}
-use Rattle.flow_bench.proofs.problem.Problem.start.Goals as goal
+use Rattle.flow_problem.proofs.problem.Problem.start.Goals as goal
 
 pub loop-node-preserved : goal.loop-node-preserved
 loop-node-preserved c =

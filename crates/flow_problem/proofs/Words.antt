@@ -1,6 +1,6 @@
 -- The words and lemmas from elsewhere that the proofs of this crate speak in, passed on from one place. Declares nothing.
-pub use Rattle.flow_bench.specs.Certificate.{AreBalanced, due, start_at, surplus_at}
-pub use Rattle.flow_bench.specs.declared.problem.Problem.{Problem}
+pub use Rattle.flow_problem.specs.Certificate.{AreBalanced, due, start_at, surplus_at}
+pub use Rattle.flow_problem.specs.declared.problem.Problem.{Problem}
 pub use Rattle.flow_net.proofs.Duality.{routing_from_surplus, surplus_is, surplus_of_routing, when}
 pub use Rattle.flow_net.proofs.Lists.{set_cases}
 pub use Rattle.flow_net.proofs.Sizes.{sizes}

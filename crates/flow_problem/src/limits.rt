@@ -1,7 +1,7 @@
 //! Whether a net may be solved: the conditions of `solve`, tested.
 ghost use Rattle.std.specs.Prelude.{ℕ, ◌↔◌, ◌<◌, length, IsTrue};
 ghost use Rattle.flow_net.specs.Net.{IsWithinLimits, IsLinkWithin, AreEnds, IsRoom, IsInitialPotential, AreInitialPotentials, potential_at};
-ghost use Rattle.flow_bench.specs.Certificate.{IsSolvable, Fit};
+ghost use Rattle.flow_problem.specs.Certificate.{IsSolvable, Fit};
 
 use crate::answer::reduced_cost;
 use crate::problem::Problem;

@@ -1,6 +1,6 @@
 use Rattle.std.proofs.Common.{arith}
-use Rattle.flow_bench.proofs.Words.{ints}
-use Rattle.flow_bench.proofs.answer.reduced_cost.Goals as goal
+use Rattle.flow_problem.proofs.Words.{ints}
+use Rattle.flow_problem.proofs.answer.reduced_cost.Goals as goal
 
 pub returns : goal.returns
 returns c =

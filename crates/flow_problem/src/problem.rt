@@ -1,7 +1,7 @@
 //! A net with the amount to route, read from text.
 ghost use Rattle.std.specs.Prelude.{◌≡◌, ◌<◌, pos, ◌≤ℤ◌, ◌<ℤ◌, map, IfOk, OnOk};
 ghost use Rattle.std.specs.List.{range_with_len};
-ghost use Rattle.flow_bench.specs.Certificate.{start_at};
+ghost use Rattle.flow_problem.specs.Certificate.{start_at};
 
 use anyhow::{Context, Result};
 use flow_net::{Link, Net};

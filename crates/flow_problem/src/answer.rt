@@ -2,7 +2,7 @@
 ghost use Rattle.std.specs.Prelude.{◌≡◌, ◌↔◌, ◌<◌, pos, ◌+ℤ◌, IfOk, IsTrue, FitsSigned, length, slice_set, replicate};
 ghost use Rattle.std.specs.Int.{w128};
 ghost use Rattle.flow_net.specs.Net.{potential_at, reduced_cost, cost_of, IfBlocked, IsRoutable, IsWithinLimits, IsWithinRooms, AreEnds};
-ghost use Rattle.flow_bench.specs.Certificate.{IsCertified, IsFound, AreSurpluses, AreBalanced, AreProved, IsProved, surplus_at, due};
+ghost use Rattle.flow_problem.specs.Certificate.{IsCertified, IsFound, AreSurpluses, AreBalanced, AreProved, IsProved, surplus_at, due};
 
 use crate::problem::Problem;
 use anyhow::{Result, ensure};
@@ -141,7 +141,7 @@ fn is_proved(link: &Link, carried: i64, potentials: &[i64]) -> bool
 }
 
 /// The cost of a link with the potential of its first node, less that of its second.
-pub fn reduced_cost(link: &Link, potentials: &[i64]) -> i128
+pub(crate) fn reduced_cost(link: &Link, potentials: &[i64]) -> i128
     ensures { result ≡ reduced_cost link.now potentials.now }
 {
     let from = potential_at(potentials, link.from);

@@ -1,10 +1,8 @@
-//! Nets with answers that were found by hand.
+//! `flow_problem`, on nets with answers that were found by hand.
 
-use crate::answer::{cost_of, is_certified};
-use crate::limits::is_solvable;
-use crate::problem::Problem;
 use anyhow::{Result, bail, ensure};
 use flow_net::{Link, MOST_ROOM, Net, Solved, solve};
+use flow_problem::{Problem, cost_of, is_certified, is_solvable};
 use std::alloc::{AllocError, Global};
 use std::process::Abort;
 use stream_case::Items;

@@ -1,6 +1,6 @@
 -- What leaves each node of a net less what enters it, and what the flow costs, link by link.
-use Rattle.flow_bench.proofs.Words.{IsWithinLimits, IsWithinRooms, Link, Net, Problem, add-one, cases_eq, due, eq-eqb, flow_on, ints, length-set, link_at}
-use Rattle.flow_bench.proofs.Words.{mul-le, ne_eqb, set_cases, sizes, sum_below, surplus_at, surplus_of_routing, unsigned_abs, unsigned_abs-mul, w128, when}
+use Rattle.flow_problem.proofs.Words.{IsWithinLimits, IsWithinRooms, Link, Net, Problem, add-one, cases_eq, due, eq-eqb, flow_on, ints, length-set, link_at}
+use Rattle.flow_problem.proofs.Words.{mul-le, ne_eqb, set_cases, sizes, sum_below, surplus_at, surplus_of_routing, unsigned_abs, unsigned_abs-mul, w128, when}
 use Rattle.flow_net.specs.declared.limits.TheConstants.{MOST_COST, MOST_LINKS, MOST_ROOM}
 use Rattle.std.proofs.Common.{Bool, FitsSigned, List, arith, false, inl, inr, length, pos, refl, set, suc, sym, true, zero, ℕ, ℤ, ◌*ℤ◌, ◌*◌, ◌+ℤ◌, ◌+◌, ◌-ℤ◌}
 use Rattle.std.proofs.Common.{◌<◌, ◌==◌, ◌∙◌, ◌≡◌, ◌≢◌, ◌≤ℤ◌, ◌≤◌}

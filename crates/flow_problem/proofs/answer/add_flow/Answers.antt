@@ -1,8 +1,8 @@
-use Rattle.flow_bench.proofs.SumLemmas.{carried, first_fits, second_fits, surplus_below, surplus_below-more}
-use Rattle.flow_bench.proofs.answer.add_flow.Goals.{In-loop-index}
-use Rattle.flow_bench.proofs.Words.{flow_on, ints, length-set, link_at, w128}
+use Rattle.flow_problem.proofs.SumLemmas.{carried, first_fits, second_fits, surplus_below, surplus_below-more}
+use Rattle.flow_problem.proofs.answer.add_flow.Goals.{In-loop-index}
+use Rattle.flow_problem.proofs.Words.{flow_on, ints, length-set, link_at, w128}
 use Rattle.std.proofs.Common.{ap, arith, length, of_z, pos, subst, to_z, ◌-ℤ◌, ◌<◌, ◌∙◌, ◌≡◌}
-use Rattle.flow_bench.proofs.answer.add_flow.Goals as goal
+use Rattle.flow_problem.proofs.answer.add_flow.Goals as goal
 
 -- the link is one of the net
 record IsAt (c : In-loop-index) : Type 0 where

@@ -1,7 +1,7 @@
-use Rattle.flow_bench.proofs.SumLemmas.{due_is}
-use Rattle.flow_bench.proofs.Words.{AreBalanced, routing_from_surplus, surplus_is}
+use Rattle.flow_problem.proofs.SumLemmas.{due_is}
+use Rattle.flow_problem.proofs.Words.{AreBalanced, routing_from_surplus, surplus_is}
 use Rattle.std.proofs.Common.{arith, refl, subst, sym, ◌<◌, ◌∙◌}
-use Rattle.flow_bench.proofs.answer.is_certified.Goals as goal
+use Rattle.flow_problem.proofs.answer.is_certified.Goals as goal
 
 pub returns : goal.returns
 returns c =

@@ -3,7 +3,7 @@ use Rattle.std.specs.Prelude.{◌≡◌, ◌==◌, ◌||◌, ℕ, ◌-◌, ◌<�
 use Rattle.flow_net.specs.declared.net.Link.{Link}
 use Rattle.flow_net.specs.declared.net.Net.{Net}
 use Rattle.flow_net.specs.Net.{link_at, flow_on, outflow, inflow, reduced_cost, cost_of, IsRouting, IsRoutable, AreProofOfLeast, IsWithinLimits, AreEnds, IsRoom, AreInitialPotentials}
-use Rattle.flow_bench.specs.declared.problem.Problem.{Problem}
+use Rattle.flow_problem.specs.declared.problem.Problem.{Problem}
 
 -- the conditions of `solve`
 pub record IsSolvable (p : Problem) (potentials : List ℤ) : Type 0 where

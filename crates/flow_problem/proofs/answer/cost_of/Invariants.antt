@@ -1,6 +1,6 @@
-use Rattle.flow_bench.proofs.Words.{flow_on, link_at, sum_below}
+use Rattle.flow_problem.proofs.Words.{flow_on, link_at, sum_below}
 use Rattle.std.proofs.Common.{◌*ℤ◌, ◌≡◌}
-use Rattle.flow_bench.proofs.answer.cost_of.Given as goal
+use Rattle.flow_problem.proofs.answer.cost_of.Given as goal
 
 abbrev pub invariant-loop-index : goal.invariant-loop-index
 invariant-loop-index l = record {

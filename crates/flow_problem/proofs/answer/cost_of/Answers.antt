@@ -1,8 +1,8 @@
-use Rattle.flow_bench.proofs.SumLemmas.{cost_small, link_cost_small}
-use Rattle.flow_bench.proofs.answer.cost_of.Goals.{After-from-in-loop-index}
-use Rattle.flow_bench.proofs.Words.{add-one, flow_on, ints, link_at, sizes, to_z-of_z, w128}
+use Rattle.flow_problem.proofs.SumLemmas.{cost_small, link_cost_small}
+use Rattle.flow_problem.proofs.answer.cost_of.Goals.{After-from-in-loop-index}
+use Rattle.flow_problem.proofs.Words.{add-one, flow_on, ints, link_at, sizes, to_z-of_z, w128}
 use Rattle.std.proofs.Common.{FitsSigned, ap, ap₂, arith, length, of_z, refl, subst, to_z, ◌*ℤ◌, ◌+ℤ◌, ◌+◌, ◌<◌, ◌∙◌, ◌≡◌}
-use Rattle.flow_bench.proofs.answer.cost_of.Goals as goal
+use Rattle.flow_problem.proofs.answer.cost_of.Goals as goal
 
 -- what the flow on the link costs, as the code has it
 record IsTerm (c : After-from-in-loop-index) : Type 0 where

@@ -1,7 +1,7 @@
-use Rattle.flow_bench.proofs.SumLemmas.{surplus_below}
-use Rattle.flow_bench.proofs.Words.{surplus_at}
+use Rattle.flow_problem.proofs.SumLemmas.{surplus_below}
+use Rattle.flow_problem.proofs.Words.{surplus_at}
 use Rattle.std.proofs.Common.{length, ℕ, ◌<◌, ◌≡◌}
-use Rattle.flow_bench.proofs.answer.add_flow.Given as goal
+use Rattle.flow_problem.proofs.answer.add_flow.Given as goal
 
 abbrev pub invariant-loop-index : goal.invariant-loop-index
 invariant-loop-index l = record {
