@@ -1,8 +1,8 @@
 -- Every command blames words, length and shelf only with cause.
-use Rattle.pinch.proofs.Formats.{IsLawful}
-use Rattle.pinch.proofs.Plain.{answered-plain, is_plain}
-use Rattle.pinch.proofs.Readings.{IsFurther, IsLawfulReading, lawful, whole}
-use Rattle.pinch.proofs.Results.{is_result}
+use Rattle.commands.proofs.Formats.{IsLawful}
+use Rattle.commands.proofs.Plain.{answered-plain, is_plain}
+use Rattle.commands.proofs.Readings.{IsFurther, IsLawfulReading, lawful, whole}
+use Rattle.commands.proofs.Results.{is_result}
 use Rattle.pinch.proofs.Words.{EndsIn, FileRole, Format, FromText, IsWhole, KeepsFiles, MAX_FILE, NoFile, NoText, Reading, Request, ShelfState, Shown}
 use Rattle.pinch.proofs.Words.{Shows, ShowsCommand, by_text, failed, file, no_file, no_text, reading_of, ready, refused, status_of, stop, too_long, wanted}
 use Rattle.pinch.specs.Causes.{Causes, HasCause, ReadsFile}

@@ -1,8 +1,8 @@
 -- A run keeps what it is to keep.
-use Rattle.pinch.proofs.PrintedDesigns.{accepted-answered, audited}
+use Rattle.commands.proofs.PrintedDesigns.{accepted-answered, audited}
 use Rattle.pinch.proofs.Causes.{causes}
-use Rattle.pinch.proofs.Complete.{bad_file, complete}
-use Rattle.pinch.proofs.PrintedProofs.{certified}
+use Rattle.commands.proofs.Complete.{bad_file, complete}
+use Rattle.commands.proofs.PrintedProofs.{certified}
 use Rattle.pinch.proofs.Words.{OutOfMemory, ShelfState, Shown, ShowsCommand, SiteShown, Status, WriteFault, number_of, status_of, ⊤}
 use Rattle.pinch.specs.Run.{Prints, Runs, cut, whole}
 use Rattle.std.proofs.Common.{List, None, Option, Some, ap, arith, inl, inr, refl, sym, ℕ, ◌∙◌, ◌≡◌}

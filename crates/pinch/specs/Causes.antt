@@ -2,8 +2,8 @@
 use Rattle.std.specs.Prelude.{◌≡◌, ◌⊎◌, ◌+◌, ℕ, true, List}
 use Rattle.pinch_outside.specs.Shelf.{ShelfState, HasFailed, IsTooLong}
 use Rattle.pinch_outside.specs.declared.limits.TheConstants.{MAX_FILE}
-use Rattle.pinch.specs.Reading.{Reading, ready, stop, wanted, file}
-use Rattle.pinch.specs.Status.{status_of, IsAnswered}
+use Rattle.commands.specs.Reading.{Reading, ready, stop, wanted, file}
+use Rattle.commands.specs.Status.{status_of, IsAnswered}
 use Rattle.reports.specs.declared.shown.FileRole.{FileRole}
 use Rattle.reports.specs.declared.shown.Shown.{Shown}
 use Rattle.reports.specs.declared.shown.Shown.TheVariants.{BadWords, ReadFault, TooLong}

@@ -6,16 +6,16 @@ use Rattle.pinch_outside.specs.Shelf.{ShelfState}
 use Rattle.pinch_outside.specs.Sink.{AppendsFront}
 use Rattle.reports.specs.Text.{text}
 use Rattle.reports.specs.declared.shown.Shown.{Shown}
-use Rattle.pinch.specs.Answers.{ShowsCommand}
-use Rattle.pinch.specs.PrintedDesigns.{AcceptsDesign, AuditsDesign}
+use Rattle.commands.specs.Answers.{ShowsCommand}
+use Rattle.commands.specs.PrintedDesigns.{AcceptsDesign, AuditsDesign}
 use Rattle.pinch.specs.Causes.{HasCause}
-use Rattle.pinch.specs.Complete.{CanAnswer, HasBadFile}
-use Rattle.pinch.specs.PrintedProofs.{ChecksProof}
-use Rattle.pinch.specs.Reading.{reading_of}
-use Rattle.pinch.specs.Status.{number_of, status_of, IsAnswered}
+use Rattle.commands.specs.Complete.{CanAnswer, HasBadFile}
+use Rattle.commands.specs.PrintedProofs.{ChecksProof}
+use Rattle.commands.specs.Reading.{reading_of}
+use Rattle.commands.specs.Status.{number_of, status_of, IsAnswered}
 use Rattle.pinch.specs.declared.program.Done.{Done}
-use Rattle.pinch.specs.declared.status.Status.{Status}
-use Rattle.pinch.specs.declared.status.Status.TheVariants.{Answered, WriteFault, OutOfMemory}
+use Rattle.commands.specs.declared.status.Status.{Status}
+use Rattle.commands.specs.declared.status.Status.TheVariants.{Answered, WriteFault, OutOfMemory}
 
 -- `text_on` tells what was written to a sink, and `faults_of` how often it refused a write
 pub record Runs {Sink : Type 0} (text_on : Sink → Option (List ℕ)) (faults_of : Sink → ℕ)

@@ -3,12 +3,11 @@ ghost use Rattle.std.specs.Prelude.{◌≡◌, ◌↔◌, IfErr, IfOk, IsErr};
 ghost use Rattle.std.specs.IoError.{error_kind};
 ghost use Rattle.std.specs.Process.{exit_status};
 ghost use Rattle.pinch.specs.Arguments.{words_of, words_behind_name, Ends};
-ghost use Rattle.pinch.specs.Status.{number_of};
-ghost use Rattle.pinch.specs.declared.status.Status.TheVariants.{OutOfMemory};
+ghost use Rattle.commands.specs.Status.{number_of};
+ghost use Rattle.commands.specs.declared.status.Status.TheVariants.{OutOfMemory};
 
 use crate::program::run;
-use crate::status::Status;
-use crate::word::Word;
+use commands::{Status, Word};
 use pinch_outside::{Shelf, Sink};
 use std::alloc::{AllocError, Global};
 use std::env::Args;

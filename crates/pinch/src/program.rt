@@ -1,15 +1,12 @@
 //! The top call: from the words and the files to the text that is written.
 ghost use Rattle.std.specs.Prelude.{◌≡◌, IfErr, IfOk, IsNone};
 ghost use Rattle.reports.specs.Text.{IsPrintable};
-ghost use Rattle.pinch.specs.Answers.{ShowsCommand};
+ghost use Rattle.commands.specs.Answers.{ShowsCommand};
 ghost use Rattle.pinch.specs.Run.{Prints, Runs};
-ghost use Rattle.pinch.specs.Status.{number_of};
-ghost use Rattle.pinch.specs.declared.status.Status.TheVariants.{OutOfMemory};
+ghost use Rattle.commands.specs.Status.{number_of};
+ghost use Rattle.commands.specs.declared.status.Status.TheVariants.{OutOfMemory};
 
-use crate::answer::answer;
-use crate::request::request_of;
-use crate::status::{Status, status_of};
-use crate::word::Word;
+use commands::{Status, Word, answer, request_of, status_of};
 use pinch_outside::{Shelf, Sink, write_all_of};
 use reports::{Shown, text_of};
 use std::alloc::{AllocError, Global};

@@ -1,4 +1,4 @@
-use Rattle.pinch.proofs.Printable.{printable}
+use Rattle.commands.proofs.Printable.{printable}
 use Rattle.pinch.proofs.Runs.{of_print}
 use Rattle.pinch.proofs.program.run_gated.Goals as goal
 

@@ -1,4 +1,4 @@
-use Rattle.pinch.proofs.Early.{early_shown}
+use Rattle.commands.proofs.Early.{early_shown}
 use Rattle.std.proofs.Common.{Ok}
 use Rattle.pinch.proofs.program.show.Goals as goal
 

@@ -1,0 +1,16 @@
+pub mod Complete
+pub mod Designs
+pub mod Early
+pub mod FileSizes
+pub mod Flows
+pub mod Formats
+pub mod Plain
+pub mod Printable
+pub mod PrintedDesigns
+pub mod PrintedProofs
+pub mod Profiles
+pub mod Readings
+pub mod Results
+pub mod ShownNetworks
+pub mod SiteCosts
+pub mod Words

@@ -1,0 +1,6 @@
+use Rattle.commands.proofs.Words.{source_profile}
+use Rattle.std.proofs.Common.{map, take, ◌≡◌}
+use Rattle.commands.proofs.site_answer.sources_at.Given as goal
+
+abbrev pub invariant-loop-place : goal.invariant-loop-place
+invariant-loop-place l = l.heats ≡ map (source_profile l.site) (take l.place-index l.places)

@@ -1,7 +1,0 @@
-use Rattle.pinch.proofs.Words.{refused}
-use Rattle.std.proofs.Common.{refl, rules}
-use Rattle.pinch.proofs.files.take_report.Goals as goal
-
-pub returns-in-Err-At-clause-stop : goal.returns-in-Err-At-clause-stop
-returns-in-Err-At-clause-stop g c =
-    refused _ c.in_ok-bytes.ensures.whole (record { at = _; why = _; fault = search rules; is = refl })
