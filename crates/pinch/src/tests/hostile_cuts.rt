@@ -10,7 +10,8 @@ use certify::{ReportFault, read_report};
 use network_text::{NetFault, read_network};
 use pinch_outside::MemoryFile;
 use site::{SiteFault, read_site};
-use std::alloc::AllocError;
+use std::alloc::{AllocError, Global};
+use std::fmt::Debug;
 use std::process::Abort;
 use std::test::Fail;
 use std::thread::Threads;
@@ -23,6 +24,17 @@ const LONGEST_FILE: usize = 8_388_608;
 /// A status and a text with which files are refused.
 type Refusal = (u8, String);
 
+/// A refusal with this status, at a row or line with this number.
+fn told(
+    alloc: Global,
+    status: u8,
+    (place, number): (&str, u32),
+    why: &impl Debug,
+) -> Result<Option<Refusal>, AllocError> {
+    let text = format!(in alloc; "{place} {number} {why:?}\n")?;
+    Ok(Some((status, text)))
+}
+
 /// How the grammar of cases refuses these bytes, if it does.
 fn refusal_of_case<R: Abort + AllocGlobal>(
     rt: &R,
@@ -32,9 +44,7 @@ fn refusal_of_case<R: Abort + AllocGlobal>(
     assert!(rt; bytes.len() <= LONGEST_FILE);
     match read_case(alloc, bytes) {
         Ok(_) => Ok(None),
-        Err(CaseFault::Row { row, why }) => {
-            Ok(Some((3, format!(in alloc; "case row {row} {why:?}\n")?)))
-        }
+        Err(CaseFault::Row { row, why }) => told(alloc, 3, ("case row", row), &why),
         Err(CaseFault::OutOfMemory) => Err(AllocError),
     }
 }
@@ -48,9 +58,7 @@ fn refusal_of_site<R: Abort + AllocGlobal>(
     assert!(rt; bytes.len() <= LONGEST_FILE);
     match read_site(alloc, bytes) {
         Ok(_) => Ok(None),
-        Err(SiteFault::Row { row, why }) => {
-            Ok(Some((3, format!(in alloc; "site row {row} {why:?}\n")?)))
-        }
+        Err(SiteFault::Row { row, why }) => told(alloc, 3, ("site row", row), &why),
         Err(SiteFault::OutOfMemory) => Err(AllocError),
     }
 }
@@ -77,9 +85,7 @@ fn refusal_of_network<R: Abort + AllocGlobal>(
     let case = completed_case(rt, case)?;
     match read_network(alloc, &case, bytes) {
         Ok(_) => Ok(None),
-        Err(NetFault::At { line, why }) => {
-            Ok(Some((4, format!(in alloc; "network line {line} {why:?}\n")?)))
-        }
+        Err(NetFault::At { line, why }) => told(alloc, 4, ("network line", line), &why),
         Err(NetFault::OutOfMemory) => Err(AllocError),
     }
 }
@@ -93,9 +99,7 @@ fn refusal_of_report<R: Abort + AllocGlobal>(
     assert!(rt; bytes.len() <= LONGEST_FILE);
     match read_report(alloc, bytes) {
         Ok(_) => Ok(None),
-        Err(ReportFault::At { line, why }) => {
-            Ok(Some((4, format!(in alloc; "report line {line} {why:?}\n")?)))
-        }
+        Err(ReportFault::At { line, why }) => told(alloc, 4, ("report line", line), &why),
         Err(ReportFault::OutOfMemory) => Err(AllocError),
     }
 }
@@ -111,9 +115,7 @@ fn refusal_of_study<R: Abort + AllocGlobal>(
     let case = completed_case(rt, case)?;
     match read_study(alloc, &case, bytes) {
         Ok(_) => Ok(None),
-        Err(StudyFault::Row { row, why }) => {
-            Ok(Some((4, format!(in alloc; "study row {row} {why:?}\n")?)))
-        }
+        Err(StudyFault::Row { row, why }) => told(alloc, 4, ("study row", row), &why),
         Err(StudyFault::OutOfMemory) => Err(AllocError),
     }
 }
