@@ -176,6 +176,10 @@ class LivePage:
         return self.until(lambda: [button for button in self.all(f'{inside} button')
                                    if button.text.startswith(text)])[0]
 
+    def click(self, find: Callable[[], WebElement]) -> None:
+        """Clicks an element, which is found again where the page draws it anew before the click."""
+        self.until(lambda: (find().click(), True))
+
     def middle(self, element: WebElement) -> tuple[float, float]:
         """Where an element is in the window."""
         x, y = self.driver.execute_script('const box = arguments[0].getBoundingClientRect();'

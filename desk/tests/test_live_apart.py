@@ -237,7 +237,7 @@ def test_a_table_is_kept_where_the_page_asks(opens: Opens, tmp_path: Path) -> No
     page.until(lambda: page.focused() == 'name of the case')
     page.press('plant.csv', Keys.ENTER)
     page.until(lambda: 'is there already' in page.text('#keeping [role=alert]'))
-    page.button('plant-case.csv', '#keeping').click()
+    page.click(lambda: page.button('plant-case.csv', '#keeping'))
     page.press(Keys.ENTER)
     page.until(lambda: len(page.exchangers()) == 1)
     names = sorted(path.name for path in tmp_path.iterdir())

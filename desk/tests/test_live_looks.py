@@ -79,7 +79,7 @@ def test_a_split_moves_nothing_beside_the_diagram_and_the_verdict_stays_in_sight
     page.until(lambda: page.all('[data-joint]'))
     assert driver.execute_script(PLACES) == before
     assert 'placed + to come' in page.text('#score h3') and page.text('#score .units').startswith('2 + 5 = 7')
-    page.button('Serve the rest', '#score').click()
+    page.click(lambda: page.button('Serve the rest', '#score'))
     page.says('Accepted')
     assert driver.execute_script(PLACES) == before
     assert page.all('#grid .share') and not driver.execute_script(CROSSED)
