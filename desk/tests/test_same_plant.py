@@ -32,7 +32,7 @@ TABLES = ['targets {case.csv}', 'flow {case.csv}', 'audit {case.csv} {case-netwo
           'prices {case.csv} {case-study.txt}', 'site {site.csv}', 'units {case.csv}',
           'units {case.csv} {case-network.txt}', 'rest {case.csv} {begun.txt}', 'rest {case.csv} {bad.txt}',
           'whatif {case.csv}', 'whatif {case.csv} {changes.csv}', f'utilities {{case.csv}} {UTILITIES}']
-SEARCHES = ['tradeoff {case.csv} {case-network.txt} --seconds 0.2', 'network {case.csv} --seconds 0.2']
+SEARCHES = ['tradeoff {case.csv} {case-network.txt} --seconds 0.2', 'network {case.csv} --steps 2']
 PICTURES = ['curves {case.csv}', 'composite {case.csv}', 'balanced {case.csv}', 'grand {case.csv}',
             'grid {case.csv} {case-network.txt}', 'grid {case.csv} {bad.txt}', 'site {site.csv}',
             'sweep {case.csv} 4 16 4', 'prices {case.csv} {case-study.txt}',
@@ -150,7 +150,7 @@ def test_what_searches_find_is_told_in_the_same_units(words: str, plain: Files, 
                              zip((answer.sheets[0] for answer in answers), (plain, other))]
     else:
         texts = [str(answer.content).split('\nexchanger')[0].split('\n') for answer in answers]
-        known = r' kW$| MJ/h$| exchangers$|<cost>$|^# (bound|rule|search|duties)| at the least approach '
+        known = r' kW$| MJ/h$| exchangers$|<cost>$|^# (bound|rule|search|duties|the same again)| at the least approach '
         assert all(re.search(known, token_of(line, other.style)) for line in texts[1])
         head = [[part for line in lines if re.match('# (cost|floor)', line) for part in texts_of(line, files.style)]
                 for lines, files in zip(texts, (plain, other))]
@@ -196,7 +196,7 @@ def test_a_page_is_that_of_the_same_plant(words: str, plain: Files, other: Files
 
 
 MANY = ['targets', 'flow', 'audit', 'table', 'sweep 4 16 4', 'prices', 'units', 'rest', 'whatif', 'site',
-        f'utilities {UTILITIES}', 'network --seconds 0.2', 'tradeoff --seconds 0.2']
+        f'utilities {UTILITIES}', 'network --steps 2', 'tradeoff --seconds 0.2']
 
 
 def many_of(files: Files, words: str) -> Parts:
@@ -230,7 +230,7 @@ def test_every_word_is_walked() -> None:
     assert {words.split()[0] for words in MANY} == walked - {'draw', 'page', 'case'}
 
 
-OF_COSTS = ('flow', 'audit', 'rest', 'sweep 4 8 4', 'prices', 'network --seconds 0.2', 'tradeoff --seconds 0.2')
+OF_COSTS = ('flow', 'audit', 'rest', 'sweep 4 8 4', 'prices', 'network --steps 2', 'tradeoff --seconds 0.2')
 
 
 @pytest.mark.parametrize('words', few_of(OF_COSTS, OF_COSTS[:5]))
