@@ -1,7 +1,9 @@
 """Scales and legends that have room, whatever numbers and names they hold."""
 from __future__ import annotations
 
-from collections.abc import Sequence
+from collections.abc import Iterator, Sequence
+from contextlib import contextmanager
+from functools import cache
 from typing import Any
 
 import matplotlib
@@ -98,4 +100,15 @@ def fitted(figure: Figure, top: float = 1.0) -> None:
     """Sets the margins so that nothing is cut: numbers, titles of axes, legends. `top` is where titles of the whole
     picture begin. What is written into the axes comes behind this."""
     for _ in range(2):
-        figure.tight_layout(pad=0.9, w_pad=2.2, h_pad=1.6, rect=(0, 0, 1, top))
+        with boxes_remembered(figure.axes):
+            figure.tight_layout(pad=0.9, w_pad=2.2, h_pad=1.6, rect=(0, 0, 1, top))
+
+
+@contextmanager
+def boxes_remembered(measured: Sequence[Axes]) -> Iterator[None]:
+    """Each diagram is measured once: for margins inside of a part of the picture matplotlib does it twice."""
+    for axes in measured:
+        axes.get_tightbbox = cache(axes.get_tightbbox)
+    yield
+    for axes in measured:
+        del axes.get_tightbbox

@@ -13,6 +13,8 @@ from matplotlib.backends.backend_agg import FigureCanvasAgg
 from matplotlib.figure import Figure
 from matplotlib.text import Text
 
+from .measuring import measured_once
+
 # Each colour can be read as a text on white: by WCAG its contrast is 4.5 at least.
 HOT, COLD, INK, PALE, FAULT = '#c0392b', '#2471a3', '#222222', '#6b6b6b', '#d80000'
 ABOVE, BELOW, BETWEEN, ACROSS, NEUTRAL = '#a04000', '#1f618d', '#1e8449', '#8e1fb5', '#333333'
@@ -26,6 +28,8 @@ STYLE: dict[str, Any] = {
     'text.color': INK, 'axes.labelcolor': INK, 'axes.titlesize': 10.5, 'axes.grid': True, 'grid.color': '#e4e4e4',
     'grid.linewidth': 0.6, 'axes.axisbelow': True, 'legend.fontsize': 8.5, 'legend.frameon': False,
     'axes.unicode_minus': True, 'axes.formatter.useoffset': False, 'axes.formatter.limits': (-5, 9),
+    # Where it is anyway: else all numbers of the axes are measured for it each time.
+    'axes.titley': 1.0,
 }
 DOTS = 150
 # The smallest letters that can be read on a screen, in points.
@@ -35,7 +39,7 @@ READABLE = 6.0
 @contextmanager
 def styled(letters_as_shapes: bool = False) -> Iterator[None]:
     """The style of this module inside; `letters_as_shapes` for a picture that must look the same on each machine."""
-    with matplotlib.rc_context({**STYLE, 'svg.fonttype': 'path' if letters_as_shapes else 'none'}):
+    with matplotlib.rc_context({**STYLE, 'svg.fonttype': 'path' if letters_as_shapes else 'none'}), measured_once():
         yield
 
 
