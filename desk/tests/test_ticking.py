@@ -2,17 +2,21 @@
 from __future__ import annotations
 
 import time
+from collections.abc import Iterator
 from fractions import Fraction
 from random import Random
 
 import pytest
 from conftest import example, few_of, of_all
 
-from pinchdesk import Cut, Pinch, completed, read_case
+from pinchdesk import Cut, Pinch, completed, read_case, read_network
 from pinchdesk.formats.case import Case, Side
 from pinchdesk.search.accepted import Judge, Judged
+from pinchdesk.search.reduce.float_duties import FloatDuties, is_dearer, least_point
 from pinchdesk.search.reduce.least_cost import cheapest
-from pinchdesk.search.reduce.structure import Parting, Structure, Through
+from pinchdesk.search.reduce.moves import later, structures, unsplit
+from pinchdesk.search.reduce.network_structure import structure_of
+from pinchdesk.search.reduce.structure import Course, Parting, Structure, Through
 from pinchdesk.search.reduce.widen import pairs_of
 from pinchdesk.search.staged.windows import Window, WindowPiece, whole, windows
 from pinchdesk.search.ticking.completing import completion
@@ -20,7 +24,6 @@ from pinchdesk.search.ticking.window_courses import (BESIDE, CORNER_TOP, STRETCH
                                                      window_network)
 from pinchdesk.search.ticking.crew import JobCrew
 from pinchdesk.search.ticking.descent import LEAST_PART, Descent
-from pinchdesk.search.ticking.float_duties import FloatDuties, least_point
 from pinchdesk.search.ticking.growing import Growing, grown
 from pinchdesk.search.ticking.heat_left import HeatLeft
 from pinchdesk.search.ticking.jobs import ChainJob, DropJob, StartJob, WholeEnd, end_of
@@ -208,6 +211,24 @@ def test_a_thinned_structure_has_duties_for_all_that_is_left(pinch: Pinch) -> No
     assert less is not None and less.count == len(less.structure.pairs) <= len(structure.pairs)
     assert min(less.duties) > 0
     assert thinned(case, structure, Fraction(flow.cost) * Fraction(99, 100) - 1, Random(1)) is None
+
+
+def test_what_floats_say_is_dearer_is_dearer(pinch: Pinch) -> None:
+    case = completed(read_case(example('tc3.csv')))
+    network = read_network(example('tc3-network.txt'))
+    structure = structure_of(case, network)
+    tried = [structure, *structures(structure, unsplit), *later(case, structure), *structures(structure, one_turned)]
+    known = [(at, costed.cost) for at, costed in ((at, cheapest(case, at)) for at in tried) if costed]
+    assert len({cost for _, cost in known}) > 1
+    for one, cost in known:
+        assert [is_dearer(case, one, other) for _, other in known] == [cost > other for _, other in known]
+        assert not is_dearer(case, one, cost)
+
+
+def one_turned(course: Course) -> Iterator[Course]:
+    """A course with two of its steps the other way round."""
+    for at in range(len(course) - 1):
+        yield (*course[:at], course[at + 1], course[at], *course[at + 2:])
 
 
 def test_a_part_of_a_source_is_more_than_a_sliver(pinch: Pinch) -> None:

@@ -8,6 +8,7 @@ from dataclasses import replace
 from fractions import Fraction
 
 from .accepted import AcceptedNetwork, Judge, Judged
+from .reduce.float_duties import is_dearer
 from .reduce.moves import structures, within
 from .reduce.simplify import simplified, without_splits
 from .reduce.structure import Course, Parting, is_flat, levelled
@@ -37,6 +38,10 @@ def evened(judge: Judge, judged: Judged, cost: Fraction, end: float, tell: Telli
     while gained:
         gained = False
         for structure in (best.structure, levelled(best.structure), *structures(best.structure, one_level)):
+            if time.monotonic() > end:
+                return best
+            if is_dearer(judge.case, structure, cost):
+                continue
             for way in (cheapest_at, with_room):
                 if time.monotonic() > end:
                     return best

@@ -14,6 +14,7 @@ from ...formats.case import Case
 from ...formats.network import Network
 from ...program.run import CaseText, NetworkText, Pinch
 from ..accepted import AcceptedNetwork, Judge, Judged, NotAccepted, case_of, held_network
+from .float_duties import is_dearer
 from .least_cost import cheapest, fewest
 from .moves import later, misplaced, structures, unsplit
 from .network_structure import Costed
@@ -98,6 +99,8 @@ def without_splits(judge: Judge, begun: Judged, cost: Fraction, end: float, tell
         for structure in (*structures(best.structure, unsplit), *later(judge.case, best.structure)):
             if time.monotonic() > end:
                 return best
+            if is_dearer(judge.case, structure, cost):
+                continue
             found = simplest(judge, best, cheapest(judge.case, structure), cost, tell)
             if found is not best:
                 best, gained = found, True

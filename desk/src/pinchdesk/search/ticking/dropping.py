@@ -8,9 +8,9 @@ from scipy.optimize import Bounds, LinearConstraint, milp
 
 from ...formats.case import Case, Side, Stream
 from ..reduce.balances import beginning, given, has_shares
+from ..reduce.float_duties import FloatDuties, Floats, FloatRows
 from ..reduce.structure import Structure, reduced
 from ..solver.quiet_output import silent
-from .float_duties import FloatDuties, Floats, FloatRows
 from .thinning import Thinned, thinned_once
 
 

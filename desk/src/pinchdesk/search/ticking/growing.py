@@ -13,11 +13,11 @@ from random import Random
 import numpy
 
 from ...formats.case import Case
+from ..reduce.float_duties import Floats
 from ..reduce.going_on import NO_KINKS, Kinks
 from ..reduce.moves import structures, unsplit
 from ..reduce.structure import Structure, splits
 from ..reduce.widen import Pair, with_more
-from .float_duties import Floats
 from .prolonging import prolonged
 from .thinning import HALF, Aim, Thinned, thinned_once, weights_of
 

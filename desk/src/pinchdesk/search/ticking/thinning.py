@@ -13,11 +13,11 @@ from random import Random
 import numpy
 
 from ...formats.case import Case
+from ..reduce.float_duties import NONE, FloatDuties, Floats, least_point
 from ..reduce.going_on import NO_KINKS, Kinks, kinks_of
 from ..reduce.moves import with_ends
 from ..reduce.structure import Course, Parting, Structure, Through, is_flat, reduced, splits, throughs
 from .window_courses import WindowNetwork
-from .float_duties import NONE, FloatDuties, Floats, least_point
 from .joining import joined_windows
 
 # A duty of so many thousandths of the greatest heat has half the weight of none; how often weights are made anew.

@@ -1,6 +1,6 @@
 """The duties of a structure as a linear program in floats, for many structures in a short time.
 
-It has the rows of `reduce.balances`, which says the same in fractions: that one has the last word."""
+It has the rows of `balances`, which says the same in fractions: that one has the last word."""
 from __future__ import annotations
 
 from collections.abc import Sequence
@@ -12,12 +12,14 @@ from numpy.typing import NDArray
 from scipy.optimize import linprog
 
 from ...formats.case import Case, Side, Stream
-from ..reduce.structure import Course, Parting, Structure, Through, throughs
 from ..solver.quiet_output import silent
+from .structure import Course, Parting, Structure, Through, throughs
 
 Floats = NDArray[numpy.float64]
 # A duty that is smaller is none, in thousandths of the greatest heat; the part of the scale that a cost may be above.
 NONE, HAIR = 1e-7, 1e-9
+# What a cost has to be above another one to be above it clearly, as a part of the scale.
+CLEARLY = 1e-4
 # How far the solver may miss a row: what it may pay beyond the cost is used for dropping what is needed.
 FEASIBLE = 1e-9
 
@@ -104,6 +106,11 @@ class FloatDuties:
         costs: Floats = numpy.sum(rows, axis=0) if rows else numpy.zeros(self.count)
         return costs
 
+    @property
+    def scale(self) -> float:
+        """What costs are measured by: the greatest heat at the greatest price, per unit."""
+        return float(1000 * max([1, *(abs(utility.price) for utility in self.case.utilities)]))
+
     def approach_rows(self) -> list[Floats]:
         """Sums that are at most 0 where both ends of each exchanger keep the approach."""
         contributions = {source.name: source.contribution for source in self.case.sources}
@@ -144,9 +151,8 @@ class FloatDuties:
             below += [end[:-1], -end[:-1]]
             limits += [1 - end[-1], end[-1]]
         if most_cost is not None:
-            prices = max([1, *(abs(utility.price) for utility in self.case.utilities)])
             below.append(self.cost_row())
-            limits.append(float(most_cost) / self.unit + HAIR * 1000 * prices)
+            limits.append(float(most_cost) / self.unit + HAIR * self.scale)
         return FloatRows(numpy.array(equal), numpy.array(equals), numpy.array(below), numpy.array(limits),
                          approaches)
 
@@ -157,3 +163,11 @@ def least_point(rows: FloatRows, weights: Sequence[float] | Floats) -> Floats | 
         found = linprog(weights, A_ub=rows.below, b_ub=rows.limits, A_eq=rows.equal, b_eq=rows.equals,
                         bounds=(0, None), method='highs-ds', options={'primal_feasibility_tolerance': FEASIBLE})
     return numpy.asarray(found.x) if found.status == 0 else None
+
+
+def is_dearer(case: Case, structure: Structure, cost: Fraction) -> bool:
+    """Whether a structure clearly costs more than this; where floats say that it can do nothing, fractions shall."""
+    duties = FloatDuties(case, structure)
+    row = duties.cost_row()
+    point = least_point(duties.rows(None), row)
+    return point is not None and float(row @ point) > float(cost) / duties.unit + CLEARLY * duties.scale
