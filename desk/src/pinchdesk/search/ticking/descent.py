@@ -7,7 +7,6 @@ from math import inf
 from random import Random
 
 from .completing import completion
-from .window_courses import Tick
 from .heat_left import Fit, HeatLeft
 
 # The largest part of a duty that fits is found by so many halvings; a smaller part of it than this is none.
@@ -192,10 +191,11 @@ class Descent:
         low, high = max(least, most * LEAST_PART), most * (1 - LEAST_PART)
         if low >= high:
             return None
-        best = self.left.fit(Tick(hot, cold, hot_place, cold_place, low))
+        places, sizes = (hot_place, cold_place), (self.left.size(hot), self.left.size(cold))
+        best = self.left.fit(hot, cold, places, low, sizes)
         for _ in range(HALVINGS if best else 0):
             middle = (low + high) / 2
-            fit = self.left.fit(Tick(hot, cold, hot_place, cold_place, middle))
+            fit = self.left.fit(hot, cold, places, middle, sizes)
             if fit:
                 best, low = fit, middle
             else:

@@ -129,11 +129,14 @@ class HeatLeft:
         if high < top - NEAR or low < bottom - NEAR:
             return False
         # What is taken is most at one of these two.
-        for place in (low, top):
-            if bottom < place < high:
-                taken = size * (high - max(place, low)) - other * max(0.0, top - place)
-                if taken > self.heat_at(place) + none:
-                    return False
+        if bottom < low < high:
+            taken = size * (high - low)
+            if top > low:
+                taken -= other * (top - low)
+            if taken > self.heat_at(low) + none:
+                return False
+        if bottom < top < high and size * (high - (top if top > low else low)) > self.heat_at(top) + none:
+            return False
         places, heats = self.places, self.heats
         for at in range(bisect_right(places, bottom), bisect_left(places, high)):
             place = places[at]
@@ -143,6 +146,11 @@ class HeatLeft:
             if taken > heats[at] + none:
                 return False
         return True
+
+    def all_of(self, slot: int) -> Rectangle:
+        """All that is left of a source."""
+        high, low = self.highs[slot], self.lows[slot]
+        return Rectangle(high, low, self.loads[slot] / (high - low))
 
     def part(self, slot: int, place: int, duty: float, partner_size: float) -> Rectangle:
         """What an exchanger at a place takes of a source."""
@@ -160,11 +168,12 @@ class HeatLeft:
             return Rectangle(high, high - duty / partner_size, partner_size)
         return Rectangle(low + duty / partner_size, low, partner_size)
 
-    def fit(self, tick: Tick) -> Fit | None:
-        """An exchanger whose duty is fitted to the cascade; None where it does not fit."""
-        warm = self.part(tick.hot, tick.hot_place, tick.duty, self.size(tick.cold))
-        cool = self.part(tick.cold, tick.cold_place, tick.duty, self.size(tick.hot))
-        return Fit(tick, warm, cool) if self.fits(warm, cool, True) else None
+    def fit(self, hot: int, cold: int, places: tuple[int, int], duty: float, sizes: tuple[float, float]) -> Fit | None:
+        """An exchanger at places of both sources, which have these sizes, whose duty is fitted to the cascade; None
+        where it does not fit."""
+        warm = self.part(hot, places[0], duty, sizes[1])
+        cool = self.part(cold, places[1], duty, sizes[0])
+        return Fit(Tick(hot, cold, *places, duty), warm, cool) if self.fits(warm, cool, True) else None
 
     def finished(self, hot: int, cold: int) -> int:
         """Which source the whole smaller heat finishes: 1 the hot one, -1 the cold one, 0 both."""
@@ -177,7 +186,7 @@ class HeatLeft:
     def finishing(self, hot: int, cold: int, places: tuple[int, ...], which: int) -> list[Fit]:
         """The exchangers that finish the smaller of two sources, or both, at places of the larger one, and fit."""
         duty = self.loads[cold] if which < 0 else self.loads[hot]
-        warm, cool = self.part(hot, WHOLE, duty, 0.0), self.part(cold, WHOLE, duty, 0.0)
+        warm, cool = self.all_of(hot), self.all_of(cold)
         if which == 0:
             return [Fit(Tick(hot, cold, WHOLE, WHOLE, duty), warm, cool)] if self.fits(warm, cool) else []
         found: list[Fit] = []
