@@ -134,7 +134,7 @@ def check_again(case: Case, form: Form, content: bytes) -> None:
     assert replace(again, basis=Basis()) == case
 
 
-@tried(20, 120)
+@tried(20, 50)
 @given(cases, forms, some.sampled_from(';\t|'))
 def test_a_case_in_any_form_is_read_as_that_case(case: Case, form: Form, separator: str) -> None:
     plain_case = plain(case)

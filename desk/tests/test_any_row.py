@@ -126,7 +126,7 @@ def is_open(form: RowForm, streams: list[Stream]) -> bool:
     return form.equipment and form.size in ('specific', 'enthalpy') or form.below.startswith('Total') and not streams
 
 
-@tried(40, 300)
+@tried(40, 100)
 @given(some_streams(), forms)
 def test_streams_in_any_form_of_rows_are_read_as_they_are(streams: list[Stream], form: RowForm) -> None:
     streams = fitting(form, streams)
@@ -140,7 +140,7 @@ def test_streams_in_any_form_of_rows_are_read_as_they_are(streams: list[Stream],
     assert len(case.utilities) == form.below.startswith(('Cooling', 'LP'))
 
 
-@tried(20, 150)
+@tried(20, 50)
 @given(some_streams(), forms, some.data())
 def test_a_row_that_contradicts_its_side_is_refused(streams: list[Stream], form: RowForm, data: Any) -> None:
     streams = fitting(replace(form, below=''), streams)

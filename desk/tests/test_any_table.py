@@ -76,7 +76,7 @@ def tables(draw: Any) -> tuple[Case, str, str]:
     return case, draw(some.sampled_from(['\n', '\r\n', '\r'])).join(quoted), mark
 
 
-@tried(8, 100)
+@tried(8, 50)
 @given(tables(), some.sampled_from(['utf-8', 'utf-8-sig', 'latin-1', 'utf-16']))
 def test_a_case_printed_as_a_table_is_read_as_the_same_case(printed: tuple[Case, str, str], encoding: str) -> None:
     case, text, mark = printed

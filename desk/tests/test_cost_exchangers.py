@@ -101,7 +101,7 @@ def streams(draw: st.DrawFn) -> str:
     return ', '.join(lines)
 
 
-@tried(4, 150)
+@tried(4, 50)
 @given(streams(), st.integers(1, 30), moneys())
 def test_a_network_costs_what_fifty_digits_say(pinch: Pinch, lines: str, difference: int, money: Money) -> None:
     case = costed_case(difference, lines, 'S 450 420 100', 'W 5 15 10', *money.rows)

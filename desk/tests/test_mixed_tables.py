@@ -141,7 +141,7 @@ def text_of(rows: list[list[str]], separator: str) -> bytes:
     return content.getvalue().encode()
 
 
-@tried(60, 300)
+@tried(60, 100)
 @given(mixed(), some.sampled_from(';\t|,'))
 def test_a_mixed_table_is_read_as_its_case_or_refused(table: Mixed, separator: str) -> None:
     is_same(text_of(table.rows, separator), table)
