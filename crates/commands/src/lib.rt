@@ -2,7 +2,7 @@
 //! answered.
 #![tactic(auto)]
 
-mod answer;
+mod answers;
 mod audit;
 mod certify_answer;
 mod design;
@@ -21,7 +21,7 @@ mod task_answer;
 mod vertical_answer;
 mod word;
 
-pub use answer::answer;
+pub use answers::answer;
 pub use request::{CaseTask, Request, request_of};
 pub use status::{Status, status_of};
 pub use stop::Stop;
