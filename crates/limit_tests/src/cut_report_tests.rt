@@ -33,13 +33,23 @@ fn cut_report(alloc: Global) -> Result<String, Fail> {
     Ok(text)
 }
 
-/// What a report proves of the wide streams with utilities amid them.
-fn check(rt: &(impl Abort + AllocGlobal), text: &str) -> Result<Checked, Fail> {
+/// What a report proves of a case.
+fn check_text(rt: &(impl Abort + AllocGlobal), case: &Case, text: &str) -> Result<Checked, Fail>
+    requires { IsComplete case.now }
+{
     assert!(rt; text.len() <= LONGEST);
-    let utilities = twelve_utilities(rt.alloc(), Hot, 1, 1500)?;
-    let case = wide_case(rt.alloc(), utilities, Vec::new(rt.alloc()))?;
     let report = read_report(rt.alloc(), text.as_bytes())?;
-    Ok(check_report(rt.alloc(), &case, &report)?)
+    Ok(check_report(rt.alloc(), case, &report)?)
+}
+
+/// What it proves of the wide streams with utilities amid them.
+fn check(rt: &(impl Abort + AllocGlobal), text: &str) -> Result<Checked, Fail> {
+    let utilities = twelve_utilities(rt.alloc(), Hot, 1, 1500)?;
+    check_text(
+        rt,
+        &wide_case(rt.alloc(), utilities, Vec::new(rt.alloc()))?,
+        text,
+    )
 }
 
 #[test]

@@ -1,12 +1,12 @@
 //! A case with as many streams and utilities as a case may have: its grid, its parts, their table
 //! and its net of chains are not too large, and it has its least cost.
 ghost use Rattle.std.specs.Prelude.{◌<◌, ◌≤◌, IfOk};
-ghost use Rattle.stream_case.specs.Case.{IsComplete};
+ghost use Rattle.stream_case.specs.Case.{IsComplete, IsValid};
 
 use crate::compare::assert_same;
-use crate::flows::{answer_of, chains_of_case, cost_in, parts_of_case, reach_of_case};
+use crate::flows::{cell_count, chain_counts, cost_or_cut, part_counts, place_count};
+use crate::numbered::{numbered_stream, numbered_utility};
 use case_text::{print_case, read_case};
-use grid::{grid_of, parts_of};
 use std::alloc::{AllocGlobal, Global};
 use std::process::Abort;
 use std::test::Fail;
@@ -14,35 +14,39 @@ use stream_case::Side::{Cold, Hot};
 use stream_case::{
     Case, Forbid, Items, MOST_FORBIDS, MOST_STREAMS, MOST_UTILITIES, Source, Stream, Utility,
 };
-use worked_tables::{MOST_HEAT, completed, stream, utility, valid};
+use worked_tables::{MOST_HEAT, completed, valid};
 
 /// The intervals that each stream spans.
 const SPANNED: usize = 2 * MOST_STREAMS + MOST_UTILITIES;
 
-/// The places, the hot and the cold parts.
-const COUNTS: [usize; 3] = [
-    4 * MOST_STREAMS + MOST_UTILITIES,
+const PLACES: usize = 4 * MOST_STREAMS + MOST_UTILITIES;
+
+/// The hot and the cold parts.
+const PARTS: [usize; 2] = [
     MOST_STREAMS * SPANNED + MOST_UTILITIES,
     MOST_STREAMS * SPANNED + 1,
 ];
+
+/// The pairs of a hot and a cold part.
+const CELLS: usize = PARTS[0] * PARTS[1];
 
 /// The groups, where no two hot sources have the same partners.
 const GROUPS: usize = MOST_STREAMS + MOST_UTILITIES;
 
 /// The nodes of a chain: parts stand on each interval, and utilities at places of their own.
-const DEPTHS: usize = (COUNTS[0] - 1) + (MOST_UTILITIES + 1);
+const DEPTHS: usize = (PLACES - 1) + (MOST_UTILITIES + 1);
 
 /// How many links lead from node to node down a chain; longer ones lead on by 3, 9, 27 and 81.
 const STEPS: usize = DEPTHS - 1;
 
 /// The nodes of the parts and of a chain for each group.
-const NODES: usize = COUNTS[1] + COUNTS[2] + GROUPS * DEPTHS;
+const NODES: usize = PARTS[0] + PARTS[1] + GROUPS * DEPTHS;
 
 /// The links where no match is forbidden: one for each hot part, those down the chains, and one for
 /// each group and cold part. A forbidden match takes away one for each part of the cold stream.
-const LINKS: usize = COUNTS[1]
+const LINKS: usize = PARTS[0]
     + GROUPS * (STEPS + STEPS / 3 + STEPS / 9 + STEPS / 27 + STEPS / 81)
-    + GROUPS * COUNTS[2];
+    + GROUPS * PARTS[1];
 
 /// Streams on both sides, all of whose upper ends lie above all their lower ends. The upper ends
 /// and the lower ends fall in the same order, so that each stream spans as many ends as there are
@@ -51,10 +55,9 @@ fn most_streams(alloc: Global) -> Result<Vec<Stream>, Fail> {
     let mut streams = Vec::new(alloc);
     for number in 0..MOST_STREAMS as u8 {
         let fall = 20 * i32::from(number);
-        let hot = format!(in alloc; "H{number}")?;
-        streams.push(stream(&hot, Hot, (2000 - fall, 1000 - fall), 10, 0)?)?;
-        let cold = format!(in alloc; "C{number}")?;
-        streams.push(stream(&cold, Cold, (990 - fall, 1990 - fall), 10, 0)?)?;
+        let (hot, cold) = ((2000 - fall, 1000 - fall), (990 - fall, 1990 - fall));
+        streams.push(numbered_stream(alloc, ("H", number), Hot, hot)?)?;
+        streams.push(numbered_stream(alloc, ("C", number), Cold, cold)?)?;
     }
     Ok(streams)
 }
@@ -63,9 +66,8 @@ fn most_streams(alloc: Global) -> Result<Vec<Stream>, Fail> {
 fn most_utilities(alloc: Global) -> Result<Vec<Utility>, Fail> {
     let mut utilities = Vec::new(alloc);
     for number in 0..MOST_UTILITIES as u8 {
-        let text = format!(in alloc; "U{number}")?;
         let level = 1100 + i32::from(number);
-        utilities.push(utility(&text, Hot, level, (0, MOST_HEAT), 1, 0)?)?;
+        utilities.push(numbered_utility(alloc, number, Hot, level, (MOST_HEAT, 1))?)?;
     }
     Ok(utilities)
 }
@@ -143,50 +145,50 @@ fn largest_case(alloc: Global, forbids: Vec<Forbid>) -> Result<Case, Fail>
 #[test]
 fn the_largest_case_has_its_grid_parts_and_table(rt: HostRuntime) -> Result<(), Fail> {
     let case = largest_case(rt.alloc(), Vec::new(rt.alloc()))?;
-    let grid = grid_of(rt.alloc(), &case)?;
-    let parts = parts_of(rt.alloc(), &case, &grid)?;
-    let counts = [grid.places.len(), parts.hot.len(), parts.cold.len()];
-    assert_same(&rt, "places and parts", &counts, &COUNTS);
-    let reach = reach_of_case(rt.alloc(), &case, &parts)?;
-    let cells = parts.hot.len() * parts.cold.len();
-    assert_same(&rt, "cells", &reach.cells.len(), &cells);
+    assert_same(&rt, "places", &place_count(rt.alloc(), &case)?, &PLACES);
+    assert_same(&rt, "parts", &part_counts(rt.alloc(), &case)?, &PARTS);
+    assert_same(&rt, "cells", &cell_count(rt.alloc(), &case)?, &CELLS);
     Ok(())
 }
 
-/// Compares the net of chains of the case with these forbidden matches, and its least cost.
-fn compare_net(rt: &(impl Abort + AllocGlobal), forbids: Vec<Forbid>) -> Result<(), Fail> {
-    let missing = SPANNED.saturating_mul(forbids.len());
-    let case = largest_case(rt.alloc(), forbids)?;
-    let parts = parts_of_case(rt.alloc(), &case)?;
-    let chains = chains_of_case(rt.alloc(), &case, &parts)?;
-    let counts = [
-        chains.groups.len(),
-        chains.net.nodes as usize,
-        chains.net.links.len(),
-    ];
+/// Compares the net of chains of the case with its forbidden matches, and its least cost.
+fn compare_net(rt: &(impl Abort + AllocGlobal), case: &Case) -> Result<(), Fail>
+    requires { IsComplete case.now }
+{
+    let missing = SPANNED.saturating_mul(case.forbids.len());
     let wanted = [GROUPS, NODES, LINKS.saturating_sub(missing)];
+    let counts = chain_counts(rt.alloc(), case)?;
     assert_same(rt, "groups, nodes and links", &counts, &wanted);
-    let answer = answer_of(rt.alloc(), &case, &parts)?;
-    assert_same(rt, "the least cost", &cost_in(&answer), &Some(0));
+    let least = cost_or_cut(rt.alloc(), case)?;
+    assert_same(rt, "the least cost", &least, &Ok(0));
     Ok(())
 }
 
 #[test]
 fn the_largest_case_has_its_net_of_chains(rt: HostRuntime) -> Result<(), Fail> {
-    compare_net(&rt, few_forbids(rt.alloc())?)
+    let forbids = few_forbids(rt.alloc())?;
+    compare_net(&rt, &largest_case(rt.alloc(), forbids)?)
 }
 
 #[test]
 fn a_case_of_all_forbidden_matches_has_its_net_of_chains(rt: HostRuntime) -> Result<(), Fail> {
-    compare_net(&rt, most_forbids(rt.alloc())?)
+    let forbids = most_forbids(rt.alloc())?;
+    compare_net(&rt, &largest_case(rt.alloc(), forbids)?)
+}
+
+/// Compares the forbidden matches of a case with those that are read of its text.
+fn compare_read(rt: &(impl Abort + AllocGlobal), case: &Case) -> Result<(), Fail>
+    requires { IsValid case.now }
+{
+    let text = print_case(rt.alloc(), case)?;
+    let read = read_case(rt.alloc(), &text)?;
+    assert_same(rt, "the forbidden matches", &read.forbids, &case.forbids);
+    assert_same(rt, "how many", &read.forbids.len(), &MOST_FORBIDS);
+    Ok(())
 }
 
 #[test]
 fn all_forbidden_matches_are_read(rt: HostRuntime) -> Result<(), Fail> {
-    let case = valid(case_with(rt.alloc(), most_forbids(rt.alloc())?)?)?;
-    let text = print_case(rt.alloc(), &case)?;
-    let read = read_case(rt.alloc(), &text)?;
-    assert_same(&rt, "the forbidden matches", &read.forbids, &case.forbids);
-    assert_same(&rt, "how many", &read.forbids.len(), &MOST_FORBIDS);
-    Ok(())
+    let forbids = most_forbids(rt.alloc())?;
+    compare_read(&rt, &valid(case_with(rt.alloc(), forbids)?)?)
 }

@@ -20,6 +20,8 @@ mod long_file_tests;
 #[cfg(test)]
 mod long_span_tests;
 #[cfg(test)]
+mod numbered;
+#[cfg(test)]
 mod wide_case;
 #[cfg(test)]
 mod wide_case_tests;

@@ -3,23 +3,24 @@ ghost use Rattle.std.specs.Prelude.{IfOk};
 ghost use Rattle.stream_case.specs.Case.{IsComplete};
 
 use crate::compare::assert_same;
-use std::alloc::Global;
+use crate::numbered::numbered_utility;
+use std::alloc::{AllocGlobal, Global};
 use std::test::Fail;
+use std::thread::Threads;
 use stream_case::Side::{Cold, Hot};
 use stream_case::{Case, Items, Utility};
 use study::{OpenGate, Segment, StudyAnswer, price_study, read_study};
-use worked_tables::{completed, stream, utility};
+use worked_tables::{completed, stream};
 
 /// Twelve heaters, each ten a watt dearer than the one before; the first can give 5,000 W, the others
 /// 200 W.
 fn twelve_heaters(alloc: Global) -> Result<Vec<Utility>, Fail> {
     let mut utilities = Vec::new(alloc);
     for number in 0..12u8 {
-        let text = format!(in alloc; "U{number}")?;
         let level = 1000 + i32::from(number);
         let most = if number == 0 { 5000 } else { 200 };
         let price = 10 * i64::from(number);
-        utilities.push(utility(&text, Hot, level, (0, most), price, 0)?)?;
+        utilities.push(numbered_utility(alloc, number, Hot, level, (most, price))?)?;
     }
     Ok(utilities)
 }
@@ -64,11 +65,20 @@ fn wanted_segments(alloc: Global) -> Result<Vec<Segment>, Fail> {
 
 const SPAN: &[u8] = b"span,U0,-50,200\n";
 
+/// What is answered of the span.
+fn answers_of<R: Threads + Sync + AllocGlobal>(
+    rt: &R,
+    case: &Case,
+) -> Result<Items<StudyAnswer>, Fail>
+    requires { IsComplete case.now }
+{
+    let study = read_study(rt.alloc(), case, SPAN)?;
+    Ok(price_study(rt, rt.alloc(), &OpenGate, case, &study, 1)?)
+}
+
 #[test]
 fn a_span_of_one_of_twelve_heaters_has_its_segments(rt: HostRuntime) -> Result<(), Fail> {
-    let case = heated_case(rt.alloc())?;
-    let study = read_study(rt.alloc(), &case, SPAN)?;
-    let answers = price_study(&rt, rt.alloc(), &OpenGate, &case, &study, 1)?;
+    let answers = answers_of(&rt, &heated_case(rt.alloc())?)?;
     let wanted = StudyAnswer::Segments(Items::from_vec(wanted_segments(rt.alloc())?));
     assert_same(&rt, "an answer", &answers.len(), &1);
     assert_same(&rt, "the segments", &answers.get(0), &Some(&wanted));

@@ -3,11 +3,12 @@
 ghost use Rattle.std.specs.Prelude.{◌<◌, ◌≤◌, IfOk};
 ghost use Rattle.stream_case.specs.Case.{IsComplete};
 
+use crate::numbered::{numbered_stream, numbered_utility};
 use std::alloc::Global;
 use std::test::Fail;
 use stream_case::Side::{Cold, Hot};
 use stream_case::{Case, Forbid, Items, MOST_STREAMS, Side, Source, Stream, Utility};
-use worked_tables::{MOST_HEAT, completed, stream, utility};
+use worked_tables::{MOST_HEAT, completed};
 
 /// What the hot streams give less than the cold ones want, all of which could take it.
 pub const MISSING: i128 = 600_000;
@@ -16,10 +17,9 @@ fn wide_streams(alloc: Global) -> Result<Vec<Stream>, Fail> {
     let mut streams = Vec::new(alloc);
     for number in 0..MOST_STREAMS as u8 {
         let step = 10 * i32::from(number);
-        let hot = format!(in alloc; "H{number}")?;
-        streams.push(stream(&hot, Hot, (2000 + step, 1000 + step), 10, 0)?)?;
-        let cold = format!(in alloc; "C{number}")?;
-        streams.push(stream(&cold, Cold, (step, 3290 - step), 10, 0)?)?;
+        let (hot, cold) = ((2000 + step, 1000 + step), (step, 3290 - step));
+        streams.push(numbered_stream(alloc, ("H", number), Hot, hot)?)?;
+        streams.push(numbered_stream(alloc, ("C", number), Cold, cold)?)?;
     }
     Ok(streams)
 }
@@ -33,13 +33,12 @@ pub fn twelve_utilities(
 ) -> Result<Vec<Utility>, Fail> {
     let mut utilities = Vec::new(alloc);
     for number in 0..12u8 {
-        let text = format!(in alloc; "U{number}")?;
         let level = if number == 0 {
             first
         } else {
             1500 + i32::from(number)
         };
-        utilities.push(utility(&text, side, level, (0, MOST_HEAT), price, 0)?)?;
+        utilities.push(numbered_utility(alloc, number, side, level, (MOST_HEAT, price))?)?;
     }
     Ok(utilities)
 }

@@ -4,14 +4,14 @@ ghost use Rattle.std.specs.Prelude.{IfOk};
 ghost use Rattle.stream_case.specs.Case.{IsComplete};
 
 use crate::compare::assert_same;
-use crate::flows::{answer_of, chains_of_case, cost_in, parts_of_case};
+use crate::flows::{chain_counts, cost_or_cut, part_counts};
 use crate::wide_case::{MISSING, twelve_utilities, unlike_partners, wide_case};
 use problem_table::targets;
-use std::alloc::Global;
+use std::alloc::{AllocError, Global};
 use std::test::Fail;
 use stream_case::Case;
 use stream_case::Side::{Cold, Hot};
-use transport::{Answer, case_cost};
+use transport::case_cost;
 
 /// A utility level amid all streams, and one above them.
 const AMID: i32 = 1500;
@@ -40,15 +40,8 @@ fn linked_case(alloc: Global, first: i32) -> Result<Case, Fail>
 #[test]
 fn a_case_of_the_most_links_has_its_net_of_chains(rt: HostRuntime) -> Result<(), Fail> {
     let case = linked_case(rt.alloc(), AMID)?;
-    let parts = parts_of_case(rt.alloc(), &case)?;
-    let counts = [parts.hot.len(), parts.cold.len()];
-    assert_same(&rt, "the parts", &counts, &PARTS);
-    let chains = chains_of_case(rt.alloc(), &case, &parts)?;
-    let counts = [
-        chains.groups.len(),
-        chains.net.nodes as usize,
-        chains.net.links.len(),
-    ];
+    assert_same(&rt, "the parts", &part_counts(rt.alloc(), &case)?, &PARTS);
+    let counts = chain_counts(rt.alloc(), &case)?;
     assert_same(&rt, "groups, nodes and links", &counts, &NET);
     Ok(())
 }
@@ -56,30 +49,42 @@ fn a_case_of_the_most_links_has_its_net_of_chains(rt: HostRuntime) -> Result<(),
 #[test]
 fn a_case_of_most_links_has_its_least_cost(rt: HostRuntime) -> Result<(), Fail> {
     let case = linked_case(rt.alloc(), ABOVE)?;
-    let parts = parts_of_case(rt.alloc(), &case)?;
-    let answer = answer_of(rt.alloc(), &case, &parts)?;
-    assert_same(&rt, "the least cost", &cost_in(&answer), &Some(MISSING));
+    let least = cost_or_cut(rt.alloc(), &case)?;
+    assert_same(&rt, "the least cost", &least, &Ok(MISSING));
     Ok(())
 }
 
 #[test]
 fn a_case_of_the_most_links_has_its_cut(rt: HostRuntime) -> Result<(), Fail> {
     let case = linked_case(rt.alloc(), AMID)?;
-    let parts = parts_of_case(rt.alloc(), &case)?;
-    let Answer::Stuck(cut) = answer_of(rt.alloc(), &case, &parts)? else {
+    let Err(parts) = cost_or_cut(rt.alloc(), &case)? else {
         return Err("a heat flow".into());
     };
-    assert_same(&rt, "hundreds of parts", &(cut.parts.len() > 400), &true);
+    assert_same(&rt, "hundreds of parts", &(parts > 400), &true);
     Ok(())
+}
+
+/// The case of the most cold parts.
+fn cooled_case(alloc: Global) -> Result<Case, Fail>
+    ensures { IfOk result IsComplete }
+{
+    let utilities = twelve_utilities(alloc, Cold, 0, AMID)?;
+    wide_case(alloc, utilities, Vec::new(alloc))
+}
+
+/// The least cost by `case_cost`, if there is a heat flow.
+fn cost_alone(alloc: Global, case: &Case) -> Result<Option<i128>, AllocError>
+    requires { IsComplete case.now }
+{
+    Ok(case_cost(alloc, case, targets(case))?.ok())
 }
 
 #[test]
 fn a_case_of_the_most_cold_parts_has_its_least_cost(rt: HostRuntime) -> Result<(), Fail> {
-    let utilities = twelve_utilities(rt.alloc(), Cold, 0, AMID)?;
-    let case = wide_case(rt.alloc(), utilities, Vec::new(rt.alloc()))?;
-    let parts = parts_of_case(rt.alloc(), &case)?;
-    assert_same(&rt, "the cold parts", &parts.cold.len(), &(30 * 102 + 12));
-    let cost = case_cost(rt.alloc(), &case, targets(&case))?.ok();
+    let case = cooled_case(rt.alloc())?;
+    let [_, cold] = part_counts(rt.alloc(), &case)?;
+    assert_same(&rt, "the cold parts", &cold, &(30 * 102 + 12));
+    let cost = cost_alone(rt.alloc(), &case)?;
     assert_same(&rt, "the least cost", &cost, &Some(MISSING));
     Ok(())
 }
