@@ -9,7 +9,7 @@ use network_audit::{Auditor, Balance, Verdict};
 use network_text::{print_network, read_network};
 use networks::Network;
 use penalties::{PenaltyList, penalties};
-use std::alloc::{AllocError, AllocGlobal, Global};
+use std::alloc::{AllocGlobal, Global};
 use std::fmt::Write;
 use std::process::Abort;
 use std::test::Fail;
@@ -73,12 +73,15 @@ fn largest_network(alloc: Global, case: &Case) -> Result<Network, Fail>
     read(alloc, case, &largest_text(alloc)?)
 }
 
-/// The verdict on a network.
-fn verdict_of(alloc: Global, case: &Case, network: &Network) -> Result<Verdict, AllocError>
+/// The balance of a network, if it is accepted.
+fn accepted_balance(alloc: Global, case: &Case, network: &Network) -> Result<Balance, Fail>
     requires complete { IsComplete case.now }
     requires shape { HasShape case.now network.now }
 {
-    Ok(Auditor::new(alloc, case, network)?.audit())
+    let Verdict::Accepted(balance) = Auditor::new(alloc, case, network)?.audit() else {
+        return Err("the network is not accepted".into());
+    };
+    Ok(balance)
 }
 
 /// How many penalties the network has.
@@ -101,14 +104,14 @@ fn the_largest_network_is_accepted(rt: HostRuntime) -> Result<(), Fail> {
     let case = completed_case(rt.alloc(), &COOLED)?;
     let network = largest_network(rt.alloc(), &case)?;
     assert_same(&rt, "the statements", &network.lines.len(), &100_000);
-    let verdict = verdict_of(rt.alloc(), &case, &network)?;
-    let balance = Balance {
+    let wanted = Balance {
         hot: Frac::whole(0),
         cold: Frac::whole(20_000),
         excess: Frac::whole(0),
         cost: Frac::whole(0),
     };
-    assert_same(&rt, "the audit", &verdict, &Verdict::Accepted(balance));
+    let balance = accepted_balance(rt.alloc(), &case, &network)?;
+    assert_same(&rt, "the balance", &balance, &wanted);
     Ok(())
 }
 
