@@ -1,4 +1,5 @@
 //! `flow_problem`, on nets with answers that were found by hand.
+ghost use Rattle.flow_net.specs.Net.{AreEnds, IsWithinLimits};
 
 use crate::compare::{assert_lists, assert_same};
 use flow_net::{Link, MOST_ROOM, Net, Solved, solve};
@@ -119,7 +120,10 @@ fn certified(
     alloc: Global,
     problem: &Problem,
     solved: Solved,
-) -> Result<Option<(Items<i64>, i128)>, Fail> {
+) -> Result<Option<(Items<i64>, i128)>, Fail>
+    requires net { IsWithinLimits problem.now.net }
+    requires ends { AreEnds problem.now.net problem.now.source problem.now.sink }
+{
     let Solved::Routed { flow, potentials } = solved else {
         return Ok(None);
     };
