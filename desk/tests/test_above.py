@@ -4,6 +4,7 @@ from __future__ import annotations
 
 from collections.abc import Iterator
 from fractions import Fraction
+from functools import cache
 from itertools import pairwise
 
 import pytest
@@ -25,11 +26,17 @@ def here(searched_here: None) -> None:
     del searched_here
 
 
+@cache
+def found_above(name: str, percent: int) -> FewExchangers:
+    """The network at so many percent above the least cost. One of 0 % is begun with by trade-offs too."""
+    return find_network(example(f'{name}.csv'), above=percent, pinch=Pinch(), way=STEPS)
+
+
 def above_the_least(pinch: Pinch, name: str, percents: dict[int, int]) -> Iterator[FewExchangers]:
     """The networks at so many percent above the least cost, each accepted at a cost that is within."""
     case = example(f'{name}.csv')
     for percent in percents:
-        found = find_network(case, above=percent, pinch=pinch, way=STEPS)
+        found = found_above(name, percent)
         verdict = pinch.audit(case, found.text)
         assert isinstance(verdict, Accepted) and verdict.cost == found.verdict.cost
         assert verdict.floor <= verdict.cost <= verdict.floor * Fraction(100 + percent, 100)
@@ -55,7 +62,7 @@ def test_a_cost_that_is_allowed_may_be_reached(pinch: Pinch) -> None:
 @pytest.mark.parametrize('name', few_of(NAMES, ('preheater',)))
 def test_fewer_exchangers_of_a_tradeoff_cost_more(name: str, pinch: Pinch) -> None:
     case = example(f'{name}.csv')
-    begin = find_network(case, pinch=pinch, way=STEPS)
+    begin = found_above(name, 0)
     made = tradeoff(case, begin.network, pinch, seconds=20)
     for row in made.rows:
         verdict = pinch.audit(case, row.network)

@@ -169,7 +169,8 @@ def test_changes_of_a_case_in_its_own_units_have_their_units() -> None:
         read_changes(table.format('190').encode(), 't.csv', case.basis)
 
 
-EVERY_WORD = ('targets', 'flow', "sweep '10 °F' '50 °F' '10 °F'", 'units', 'whatif', 'network --seconds 0.5')
+EVERY_WORD = ('targets', 'flow', "sweep '10 °F' '50 °F' '10 °F'", 'units', 'whatif',
+              'network --seconds 0.5 --workers 1')
 
 
 @pytest.mark.parametrize('words', few_of(EVERY_WORD, EVERY_WORD[:-1]))

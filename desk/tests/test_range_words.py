@@ -284,7 +284,7 @@ def test_coefficients_of_them_are_kept(pinch: Pinch) -> None:
 
 @pytest.mark.long
 def test_a_network_is_found_and_accepted(plant: Path) -> None:
-    answer('network', 'case.csv', '--seconds', '5', '-o', 'net.txt', cwd=plant)
+    answer('network', 'case.csv', '--seconds', '5', '--workers', '1', '-o', 'net.txt', cwd=plant)
     head = (plant / 'net.txt').read_text(encoding='utf-8')
     assert '# cost 0.971 EUR/h: 0.938 EUR/h of flue-gas, 0.033 EUR/h of water, 0 EUR/h by the program\n# floor' in head
     out = answer('table', 'case.csv', 'net.txt', cwd=plant).out
